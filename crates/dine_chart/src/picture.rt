@@ -29,8 +29,8 @@ pub const TOP: u64 = 66;
 /// How high a lane is.
 pub const LANE: u64 = 34;
 
-/// All that is drawn. It is gathered from a journal in `gather.rt`. Its text is written in `picture_form.rt`: as an SVG in `svg.rt`,
-/// as a page in `page.rt`. None is read.
+/// All that is drawn. It is gathered from a journal in `gather.rt`. Its text is written in `picture_form.rt`: as an SVG in
+/// `svg.rt`, as a page in `page.rt`. None is read.
 #[derive(Drop)]
 pub struct Picture {
     /// How many entries the journal has.

@@ -1,5 +1,5 @@
-//! The text of an SVG: a head, a heading, the numbers of the places, the lanes, the marks in layers, and a legend. On `Err` a
-//! part may have been appended.
+//! The text of an SVG: a head, a heading, the numbers of the places, the lanes, the marks in layers, and a legend. On `Err`
+//! a part may have been appended.
 
 ghost use Rattle.std.specs.Prelude.{◌≡◌, ◌++◌, ◌≤◌, ◌+◌, ◌*◌, OnOk, OnErr};
 ghost use mathlib.Core.List.{IsPrefix};

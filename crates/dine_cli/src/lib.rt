@@ -13,8 +13,8 @@ mod resumed;
 mod trace;
 
 // `run_words` is the whole program in one call. Only tests and the benchmark take `VERSION`, `Silence`, `NoFiles`,
-// `AuditReading`, `run_audit`, `run_race`, `run_resumed`, `run_script` and `run_serve`: what it does by one subcommand, tried over
-// streams that fail.
+// `AuditReading`, `run_audit`, `run_race`, `run_resumed`, `run_script` and `run_serve`: what it does by one subcommand,
+// tried over streams that fail.
 pub use dine_command_line::{CommandLine, Host, Input, NoFiles, Print, Request, VERSION};
 pub use dine_lines::{Listener, Remark, Seed, Silence};
 pub use dine_race::{Gate, NoGate};

@@ -1,6 +1,6 @@
 //! The program between its words and streams and its exit status.
 
-ghost use Rattle.std.specs.Prelude.{◌≤◌};
+ghost use Rattle.std.specs.Prelude.{◌≡◌, ◌≤◌, OnOk};
 ghost use Rattle.dine_cli.specs.Asked.{IsRequestDone, IsRun};
 ghost use Rattle.dine_command_line.specs.Program.{IsAnswered, IsOver, IsProgramRun, reading, writing};
 
@@ -37,9 +37,9 @@ struct Means<'a, T, G> {
 /// isn't settled. It is 2 if the input or the command line has a fault, for the latter after the line `fault command`. It is
 /// 3 if memory ran out or a read or a write failed, after a last line that says which, if it can be written.
 ///
-/// The input is the reader's, or that of the file that the words name. The host opens that file, and the journal that is gone
-/// on with. A file that can't be opened is a read that failed, and then nothing of the reader is read. The host is told what
-/// the words ask for, what is wrong with the input, and why the run gave up.
+/// The input is the reader's, or that of the file that the words name. The host opens that file, and the journal that is
+/// gone on with. A file that can't be opened is a read that failed, and then nothing of the reader is read. The host is
+/// told what the words ask for, what is wrong with the input, and why the run gave up.
 ///
 /// Each step of a race's workers goes through the gate. Names are found by hashes of the seed: under one that a stranger
 /// knows, names that are chosen for it can make the program slow.
@@ -130,12 +130,13 @@ impl<'a, T: Threads + Wait + Sync, G: Gate + Sync> Means<'a, T, G> {
         writer: &mut W,
         host: &mut H,
     ) -> Result<Ended, CliFault>
-        ensures { IsOver H.lacks H.holds request.input
+        ensures over { IsOver H.lacks H.holds request.input
             (IsRun request.asked (J.remaining journal.old) (J.mark journal.new))
             (reading (R.remaining reader.old) (R.remaining reader.new)
             (R.mark reader.old) (R.mark reader.new))
             (writing (W.contents writer.old) (W.contents writer.new)
             (W.mark writer.old) (W.mark writer.new)) result }
+        ensures journal_unmarked { OnOk result (J.mark journal.new ≡ J.mark journal.old) }
     {
         let Request {
             asked,
@@ -157,8 +158,8 @@ impl<'a, T: Threads + Wait + Sync, G: Gate + Sync> Means<'a, T, G> {
     }
 
     // Does what is asked for. What is written, how it ends, and what was written if it gives up, is that of the script, the
-    // race, the audit, the service, the chart, the trace or the graph, the text of the help, or the line `fault command`. The
-    // listener is told what is wrong, if something is. Of a line that is served the answer says it.
+    // race, the audit, the service, the chart, the trace or the graph, the text of the help, or the line `fault command`.
+    // The listener is told what is wrong, if something is. Of a line that is served the answer says it.
     //
     // The journal is the one that is gone on with, whatever path is asked for. If none is, it isn't read.
     fn carry_out<J: Source, R: Source, W: Sink, L: Listener>(
@@ -169,11 +170,12 @@ impl<'a, T: Threads + Wait + Sync, G: Gate + Sync> Means<'a, T, G> {
         writer: &mut W,
         listener: &mut L,
     ) -> Result<Ended, CliFault>
-        ensures { IsRun asked (J.remaining journal.old) (J.mark journal.new)
+        ensures ran { IsRun asked (J.remaining journal.old) (J.mark journal.new)
             (reading (R.remaining reader.old) (R.remaining reader.new)
             (R.mark reader.old) (R.mark reader.new))
             (writing (W.contents writer.old) (W.contents writer.new)
             (W.mark writer.old) (W.mark writer.new)) result }
+        ensures journal_unmarked { OnOk result (J.mark journal.new ≡ J.mark journal.old) }
     {
         let (rt, alloc, gate, seed) = (self.rt, self.alloc, self.gate, self.seed);
         match asked {

@@ -143,8 +143,8 @@ impl<J: Naming> Locked<J> {
         self.hall.would_wait(task)
     }
 
-    /// Whether the front was stopped before the turn of the task came: a `Begin` would still be answered `NotYet`. A turn that
-    /// came first is no less a turn.
+    /// Whether the front was stopped before the turn of the task came: a `Begin` would still be answered `NotYet`. A turn
+    /// that came first is no less a turn.
     pub(crate) fn waits_in_vain(&self, task: Task) -> bool
         ensures { IsTrue result ↔ (IsTrue self.now.is_stopped
             × (reply_of (table_kept self.now) (Call.Begin task) ≡ Reply.Refused Refusal.NotYet)) }

@@ -88,8 +88,8 @@ fn run_whole_audit<R: Source, W: Sink, L: Listener>(
     write_answer(alloc, answer, writer)
 }
 
-// Audits a journal that is read up to the first line that is wrong. Where memory runs out, the rest is read first: a read that
-// fails there is told before.
+// Audits a journal that is read up to the first line that is wrong. Where memory runs out, the rest is read first: a read
+// that fails there is told before.
 fn run_long_audit<R: Source, W: Sink, L: Listener>(
     alloc: Global,
     reader: &mut R,
@@ -117,8 +117,8 @@ fn run_long_audit<R: Source, W: Sink, L: Listener>(
     }
 }
 
-// The fault of an audit for which memory was wanting. What is left of its journal is read first, up to more than an input may
-// have.
+// The fault of an audit for which memory was wanting. What is left of its journal is read first, up to more than an input
+// may have.
 #[cold]
 fn fault_behind<R: Source>(reader: &mut R) -> CliFault
     ensures read { result ≡ CliFault.Read → R.mark reader.new ≡ true }

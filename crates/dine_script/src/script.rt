@@ -26,10 +26,10 @@ use std::alloc::{AllocError, Global};
 /// Runs a script: reads all of it, carries out its lines one after the other over a table with these limits, and writes
 /// one line for each line that isn't passed over, or the journal of its calls alone.
 ///
-/// It ends with `Fault` if a line has a fault, else with `Good`. It gives up with `Read` if a read fails or the input is too
-/// long, whatever else is wrong, and has written nothing then. It gives up with `Write` if a write fails, and has written a
-/// part of the output. It gives up with `Memory` if memory runs out, and has written some whole lines of the output, from the
-/// first on.
+/// It ends with `Fault` if a line has a fault, else with `Good`. It gives up with `Read` if a read fails or the input is
+/// too long, whatever else is wrong, and has written nothing then. It gives up with `Write` if a write fails, and has
+/// written a part of the output. It gives up with `Memory` if memory runs out, and has written some whole lines of the
+/// output, from the first on.
 ///
 /// Its names are found by hashes of this seed: under a seed that a stranger knows, names that are chosen for it can
 /// make it slow. The listener is told which lines have a fault.
@@ -94,8 +94,8 @@ fn begin(
     Ok((input, run))
 }
 
-// A script that is run: where it stands, and what came of the lines that were carried out. A loop over lines is handed all of it
-// by one pointer, which takes one register.
+// A script that is run: where it stands, and what came of the lines that were carried out. A loop over lines is handed all
+// of it by one pointer, which takes one register.
 #[derive(Drop)]
 struct Running {
     session: Session,
@@ -104,8 +104,8 @@ struct Running {
     remarks: FaultRemarks,
 }
 
-// Reads a script of which nothing was read, carries out its lines, writes what is printed of them behind what is pending, and
-// answers how many have a fault. The session makes its first call here.
+// Reads a script of which nothing was read, carries out its lines, writes what is printed of them behind what is pending,
+// and answers how many have a fault. The session makes its first call here.
 #[inline(always)]
 fn run_whole<R: Source, W: Sink>(
     reader: &mut R,
@@ -150,9 +150,9 @@ fn run_whole<R: Source, W: Sink>(
     }
 }
 
-// Reads all of a script, carries out what lines it can by the way, and answers how many of those have a fault. The text that is
-// left, which may be most of it, is for whoever comes next. Want of memory for a line is an error within: what was printed of
-// the lines before is pending then.
+// Reads all of a script, carries out what lines it can by the way, and answers how many of those have a fault. The text
+// that is left, which may be most of it, is for whoever comes next. Want of memory for a line is an error within: what was
+// printed of the lines before is pending then.
 #[inline(always)]
 fn read_script<R: Source>(
     reader: &mut R,
@@ -184,9 +184,9 @@ fn read_script<R: Source>(
     Ok(front)
 }
 
-// Reads a script and carries out its whole lines by the way, and keeps what is printed of them in place of the text: nothing
-// may be written before all is read. It ends at the end, or where a large write more is printed than was read, and answers how
-// many lines have a fault. The text that is left is for whoever comes next. Want of memory is an error within.
+// Reads a script and carries out its whole lines by the way, and keeps what is printed of them in place of the text:
+// nothing may be written before all is read. It ends at the end, or where a large write more is printed than was read, and
+// answers how many lines have a fault. The text that is left is for whoever comes next. Want of memory is an error within.
 #[inline(always)]
 fn run_front<R: Source>(
     reader: &mut R,
@@ -253,8 +253,8 @@ fn run_heard(
     Ok(faults)
 }
 
-// Carries out lines of a text until so many bytes are pending, or none is left, and answers how many of them have a fault, and
-// what is left. On `Err` what was printed before memory ran out is pending.
+// Carries out lines of a text until so many bytes are pending, or none is left, and answers how many of them have a fault,
+// and what is left. On `Err` what was printed before memory ran out is pending.
 #[inline(never)]
 fn run_some<'a>(
     text: &'a [u8],
@@ -282,8 +282,8 @@ fn run_some<'a>(
     Ok((faults, rest))
 }
 
-// Carries out the lines of a text, the last of a script, writes what is printed of them behind what is pending, and answers how
-// many of them have a fault.
+// Carries out the lines of a text, the last of a script, writes what is printed of them behind what is pending, and answers
+// how many of them have a fault.
 #[inline(always)]
 fn run_rest<W: Sink>(
     text: &[u8],

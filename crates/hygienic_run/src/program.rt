@@ -19,9 +19,9 @@ const ELSEWHERE: &[u8] =
 /// the exit status. It is the whole program's, if they ask for a script's run, for help, or for nothing that there is. If
 /// they ask for anything else, it writes `fault command`, and the status is 2.
 ///
-/// The input is the reader's, or that of the file that the words name, which the host opens. A file that can't be opened is a
-/// read that failed, and then nothing of the reader is read. The host is told what the words ask for, what is wrong with the
-/// input, and why the run gave up.
+/// The input is the reader's, or that of the file that the words name, which the host opens. A file that can't be opened is
+/// a read that failed, and then nothing of the reader is read. The host is told what the words ask for, what is wrong with
+/// the input, and why the run gave up.
 ///
 /// Names are found by hashes of the seed: under one that a stranger knows, names that are chosen for it can make the program
 /// slow.

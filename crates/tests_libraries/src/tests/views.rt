@@ -1,9 +1,9 @@
-//! Names, a history and texts, by their short calls.
+//! Names, a history and texts, by their short calls, and the rooms that contracts name.
 
 use crate::tests::same::same;
 use dine_journal::Hall;
 use dine_lines::{Name, Names};
-use dine_words::{Call, Refusal, Reply, State};
+use dine_words::{Call, MAX_ENTRY_LINE, NUMBER_LEN, Refusal, Reply, State, push_number};
 use std::alloc::AllocError;
 use std::test::Fail;
 use tests_kit::{A, LIMITS};
@@ -53,5 +53,15 @@ fn a_refused_reply_has_the_text_of_its_refusal(rt: HostRuntime) -> Result<(), Al
         wanted.extend_from_slice(refusal.text().as_bytes())?;
         same(&rt, written.as_slice(), wanted.as_slice());
     }
+    Ok(())
+}
+
+// Contracts cite these from the code.
+#[test]
+fn rooms_of_texts_have_their_sizes(rt: HostRuntime) -> Result<(), AllocError> {
+    let mut largest = Vec::new(rt.alloc());
+    push_number(&mut largest, u64::MAX)?;
+    same(&rt, largest.len(), NUMBER_LEN);
+    same(&rt, (NUMBER_LEN, MAX_ENTRY_LINE), (20, 166));
     Ok(())
 }

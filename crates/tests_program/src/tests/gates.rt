@@ -38,8 +38,8 @@ const SPINS: u32 = 100_000;
 
 const MOST_TURNS: u32 = 10_000_000;
 
-/// Gives other threads time to go on, if nothing holds them. It doesn't yield: on a busy machine each time costs what another
-/// program likes.
+/// Gives other threads time to go on, if nothing holds them. It doesn't yield: on a busy machine each time costs what
+/// another program likes.
 pub fn dawdle() {
     for _ in 0..SPINS {
         spin_loop();

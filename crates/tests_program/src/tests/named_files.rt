@@ -14,8 +14,8 @@ const FILES: [Named; 3] = [
     ("lines", b"0 hungry 0.0\n"),
 ];
 
-// Those files. It is noted what is asked for, how many files were to be opened, whether the standard input was to be read, how
-// many remarks are told, and why the run gave up, and how often.
+// Those files. It is noted what is asked for, how many files were to be opened, whether the standard input was to be read,
+// how many remarks are told, and why the run gave up, and how often.
 #[derive(Drop)]
 struct Memory {
     begun: u32,
@@ -65,8 +65,8 @@ impl Host for Memory {
     }
 }
 
-// A command line, what is written of it over a reader, the status, why the run gave up, whether the reader is read, and how many
-// files were to be opened: the journal before the input, which isn't opened if there is no journal.
+// A command line, what is written of it over a reader, the status, why the run gave up, whether the reader is read, and how
+// many files were to be opened: the journal before the input, which isn't opened if there is no journal.
 struct Row {
     words: &'static [&'static str],
     written: &'static [u8],

@@ -10,7 +10,8 @@ use std::thread::{available_parallelism, yield_now};
 use tests_kit::Machine;
 
 // Lets each worker but the first come late, one after the other, and notes whether a step is done before the last has come.
-// Each step lets others go on first: on a busy machine a worker may else do all its steps before another one has a processor.
+// Each step lets others go on first: on a busy machine a worker may else do all its steps before another one has a
+// processor.
 #[derive(Drop)]
 struct LateComers {
     workers: u32,

@@ -244,8 +244,8 @@ const EACH_KIND: &[u8] =
     b"join a\njoin b\nconflict a b\nhungry a\nbegin a\nfinish a\nhungry a\nwithdraw a\n\
 neighbours a\nnext\nstate b\nstate a\nleave b\n";
 
-// What stands before two lines with a fault: lines that print nothing, lines that print more than they say, and lines of each
-// kind.
+// What stands before two lines with a fault: lines that print nothing, lines that print more than they say, and lines of
+// each kind.
 const FAR_DOWN: [Parts; 3] = [
     (
         b"join a\n",

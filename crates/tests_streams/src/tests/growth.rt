@@ -187,7 +187,8 @@ fn audit_to(
 const OTHER_REPLY: &[u8] =
     b"error: line 1: '0 join -> done', where the table of last meals answers 'joined 0.0'\n";
 
-// Where memory runs out an audit leaves it to whoever gives up to say so. It may have said what is wrong with the line before.
+// Where memory runs out an audit leaves it to whoever gives up to say so. It may have said what is wrong with the line
+// before.
 #[test]
 fn an_audit_without_memory_says_nothing_of_it(rt: HostRuntime) {
     let mut heard = Heard::new(rt.alloc());

@@ -1,5 +1,6 @@
-//! Streams of std that fail at two calls, in each way that there is and at each of several sizes, and work at the others. A call
-//! of a marked stream is one call of the stream within: none is tried again, none is left out, and no failure is made up.
+//! Streams of std that fail at two calls, in each way that there is and at each of several sizes, and work at the others. A
+//! call of a marked stream is one call of the stream within: none is tried again, none is left out, and no failure is made
+//! up.
 
 ghost use Rattle.std.specs.Prelude.{◌≡◌, IfOk};
 

@@ -113,8 +113,8 @@ fn reads_behind_a_wrong_line(rt: &impl Machine, reads: u32) -> bool {
     false
 }
 
-// An audit that isn't long has its answer at the wrong line, and reads on all the same: to the eleven reads of the text comes
-// the one that meets its end.
+// An audit that isn't long has its answer at the wrong line, and reads on all the same: to the eleven reads of the text
+// comes the one that meets its end.
 #[test]
 fn a_read_that_fails_behind_a_wrong_line_is_told(rt: HostRuntime) {
     for reads in 0..14 {

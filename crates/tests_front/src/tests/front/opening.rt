@@ -24,6 +24,12 @@ fn a_front_has_one_to_sixteen_passes(rt: HostRuntime) {
     }
 }
 
+// Contracts cite it from the code: a part for each of sixteen passes, and one for the front.
+#[test]
+fn a_ledger_has_seventeen_parts(rt: HostRuntime) {
+    same(&rt, dine_front::LEDGER_PARTS, 17);
+}
+
 #[test]
 fn faults_tell_their_numbers(rt: HostRuntime) {
     let (count, memory) = (OpenFault::Count.number(), OpenFault::Memory.number());

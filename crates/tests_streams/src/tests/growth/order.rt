@@ -1,5 +1,5 @@
-//! A read that fails is told before want of memory, whatever memory failed. Each test is an ordinary run where memory is ample,
-//! as those of `growth` are.
+//! A read that fails is told before want of memory, whatever memory failed. Each test is an ordinary run where memory is
+//! ample, as those of `growth` are.
 
 use crate::tests::engine::Engine;
 use crate::tests::same::same;
@@ -93,7 +93,9 @@ fn check_drawing(rt: &impl Machine, words: &'static [&'static str], reads: u32) 
 #[test]
 fn a_failed_read_of_what_is_drawn_is_told_first(rt: HostRuntime) {
     for words in &DRAWINGS {
-        check_drawing(&rt, *words, MOST_READS);
+        for reads in 0..=MOST_READS {
+            check_drawing(&rt, *words, reads);
+        }
     }
 }
 

@@ -5,8 +5,8 @@ use Rattle.dine_script.proofs.CallerLemmas.{script_carried_out, text_carried_out
 use Rattle.dine_cli.proofs.Outcomes.{carried_out, reported, resumed_carried_out, service_carried_out}
 use Rattle.dine_cli.proofs.program.Means.carry_out.Goals as goal
 
-pub returns-in-Run : goal.returns-in-Run
-returns-in-Run g c =
+pub returns-in-Run-clause-ran : goal.returns-in-Run-clause-ran
+returns-in-Run-clause-ran g c =
     let said = c.run_script.ensures in
     rw c.in-Run.is (record {
       carried = script_carried_out c.in-Run.limits c.in-Run.print _ _ _ _ said.output said.ended said.memory said.read said.write;
@@ -14,8 +14,8 @@ returns-in-Run g c =
       far = said.whole;
     })
 
-pub returns-in-Race : goal.returns-in-Race
-returns-in-Race g c =
+pub returns-in-Race-clause-ran : goal.returns-in-Race-clause-ran
+returns-in-Race-clause-ran g c =
     let said = c.run_race.ensures in
     rw c.in-Race.is (record {
       carried = carried_out (Race c.in-Race.print) (g.J.Source.remaining c.args.journal.now) _ _ _ _ said.raced said.memory said.read said.write;
@@ -23,13 +23,13 @@ returns-in-Race g c =
       far = said.whole;
     })
 
-pub returns-in-Audit : goal.returns-in-Audit
-returns-in-Audit g c =
+pub returns-in-Audit-clause-ran : goal.returns-in-Audit-clause-ran
+returns-in-Audit-clause-ran g c =
     let said = c.run_audit.ensures in
     rw c.in-Audit.is (record { carried = reported c.run_audit.result said.reported; marks = said.marks; far = said.whole refl })
 
-pub returns-in-Serve : goal.returns-in-Serve
-returns-in-Serve g c =
+pub returns-in-Serve-clause-ran : goal.returns-in-Serve-clause-ran
+returns-in-Serve-clause-ran g c =
     let said = c.run_serve.ensures in
     rw c.in-Serve.is (record {
       carried = service_carried_out (g.J.Source.remaining c.args.journal.now) c.in-Serve.limits c.in-Serve.passes _ _ _ _ _ said.output said.ended said.memory said.at_each_read said.write;
@@ -37,8 +37,8 @@ returns-in-Serve g c =
       far = tt;
     })
 
-pub returns-in-Resume : goal.returns-in-Resume
-returns-in-Resume g c =
+pub returns-in-Resume-clause-ran : goal.returns-in-Resume-clause-ran
+returns-in-Resume-clause-ran g c =
     let said = c.run_resumed.ensures in
     rw c.in-Resume.is (record {
       carried = resumed_carried_out c.in-Resume.passes _ _ _ _ _ _ said.ok said.memory said.read said.write;
@@ -46,18 +46,18 @@ returns-in-Resume g c =
       far = tt;
     })
 
-pub returns-in-AuditLong : goal.returns-in-AuditLong
-returns-in-AuditLong g c =
+pub returns-in-AuditLong-clause-ran : goal.returns-in-AuditLong-clause-ran
+returns-in-AuditLong-clause-ran g c =
     let said = c.run_audit-in-AuditLong.ensures in
     rw c.in-AuditLong.is (record { carried = reported c.run_audit-in-AuditLong.result said.reported; marks = said.marks; far = said.far })
 
-pub returns-in-Chart : goal.returns-in-Chart
-returns-in-Chart g c =
+pub returns-in-Chart-clause-ran : goal.returns-in-Chart-clause-ran
+returns-in-Chart-clause-ran g c =
     let said = c.run_drawing.ensures in
     rw c.in-Chart.is (record { carried = reported c.run_drawing.result said.reported; marks = said.marks; far = said.whole })
 
-pub returns-in-Trace : goal.returns-in-Trace
-returns-in-Trace g c =
+pub returns-in-Trace-clause-ran : goal.returns-in-Trace-clause-ran
+returns-in-Trace-clause-ran g c =
     let said = c.run_trace.ensures in
     rw c.in-Trace.is (record {
       carried = carried_out (tracing c.in-Trace.trace) (g.J.Source.remaining c.args.journal.now) _ _ _ _ said.ok said.memory said.read said.write;
@@ -65,13 +65,13 @@ returns-in-Trace g c =
       far = said.whole;
     })
 
-pub returns-in-Graph : goal.returns-in-Graph
-returns-in-Graph g c =
+pub returns-in-Graph-clause-ran : goal.returns-in-Graph-clause-ran
+returns-in-Graph-clause-ran g c =
     let said = c.run_drawing-in-Graph.ensures in
     rw c.in-Graph.is (record { carried = reported c.run_drawing-in-Graph.result said.reported; marks = said.marks; far = said.whole })
 
-pub returns-in-Help : goal.returns-in-Help
-returns-in-Help g c =
+pub returns-in-Help-clause-ran : goal.returns-in-Help-clause-ran
+returns-in-Help-clause-ran g c =
     let said = c.write_text.ensures in
     rw c.in-Help.is (record {
       carried = text_carried_out _ _ Good _ _ _ c.as_bytes.ensures.value said.written said.ended said.left;
@@ -79,8 +79,8 @@ returns-in-Help g c =
       far = record { bytes = refl; mark = refl };
     })
 
-pub returns : goal.returns
-returns g c =
+pub returns-clause-ran : goal.returns-clause-ran
+returns-clause-ran g c =
     let said = c.write_text-in-Nothing.ensures in
     rw c.in-Nothing.is (record {
       carried = text_carried_out _ (codes "fault command\n") Fault _ _ _ refl said.written said.ended said.left;
