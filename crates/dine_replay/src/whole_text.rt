@@ -1,7 +1,7 @@
 //! A journal in memory audited.
 
-ghost use Rattle.std.specs.Prelude.{◌≡◌, ◌⊎◌, IfErr, IfOk, IfSome, IsErrOf};
-ghost use Rattle.dine_streams.specs.Inputs.{IsMarkedOrLong};
+ghost use Rattle.std.specs.Prelude.{◌≡◌, ◌≢◌, ◌⊎◌, Err, IfErr, IfOk, IfSome, IsErrOf};
+ghost use Rattle.dine_streams.specs.Inputs.{IsMarkedOrLong, IsReadWhole};
 ghost use Rattle.dine_replay.specs.Audit.{IsAnswer};
 ghost use Rattle.dine_replay.specs.Checking.{IsChecked};
 ghost use Rattle.dine_replay.specs.Lines.{IsReplayedWhole};
@@ -19,10 +19,13 @@ use std::alloc::Global;
 ///
 /// The header names the version, and so which limits it can have and which calls the lines after it. The whole input is read
 /// first. Then lines are taken in order, and the first fault is answered. `Read` is answered where a read fails or the input
-/// is longer than [`MAX_INPUT`](crate::MAX_INPUT), and `Memory` where memory runs out: neither says anything of the text.
+/// is longer than [`MAX_INPUT`](crate::MAX_INPUT), and `Memory` where memory runs out, once all is read: neither says
+/// anything of the text.
 pub fn audit<R: Source>(alloc: Global, reader: &mut R) -> Result<Journal, AuditFault>
-    ensures { IsAnswered IsAnswer IsMarkedOrLong result
+    ensures answered { IsAnswered IsAnswer IsMarkedOrLong result
         (R.remaining reader.old) (R.mark reader.old) (R.mark reader.new) }
+    ensures whole { result ≢ Err AuditFault.Read → IsReadWhole (R.remaining reader.old)
+        (R.remaining reader.new) (R.mark reader.old) (R.mark reader.new) }
 {
     audit_text(alloc, &read_text(alloc, reader)?)
 }
@@ -35,6 +38,8 @@ fn read_text<R: Source>(alloc: Global, reader: &mut R) -> Result<Vec<u8>, AuditF
     ensures mark { IsReaderMarked result
         (IsMarkedOrLong (R.mark reader.new) (R.remaining reader.old))
         (R.mark reader.old) (R.mark reader.new) }
+    ensures whole { result ≢ Err AuditFault.Read → IsReadWhole (R.remaining reader.old)
+        (R.remaining reader.new) (R.mark reader.old) (R.mark reader.new) }
 {
     match read_whole(alloc, reader) {
         Ok(text) => Ok(text),

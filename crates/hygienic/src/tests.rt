@@ -1,8 +1,11 @@
-//! What a terminal is told of a race that stands still.
+//! What a terminal is told of a race that stands still, and how its scenario is read for it.
 
+use crate::scenario_text::Kept;
 use crate::waiting::{meal_at, waiting_text};
+use crate::watch::Watch;
 use dine_lines::{Name, Seed};
 use dine_scenario::{Scenario, read_scenario};
+use std::io::{self, Error, ErrorKind, Read};
 use std::process::Abort;
 
 // The setup of c's conflicts is taken back in part, by either order of the names, and made again.
@@ -91,5 +94,68 @@ fn a_conflict_that_has_ended_keeps_nobody_waiting(rt: HostRuntime) {
     let scenario = scenario(&rt);
     for row in &TOLD {
         check_told(&rt, &scenario, row);
+    }
+}
+
+// A reader that fails at its second call and at its fourth, in this way. Each other call gives a byte, or nothing from the
+// seventh on.
+#[derive(Drop)]
+struct FailsTwice {
+    kind: ErrorKind,
+    calls: u32,
+}
+
+impl Read for FailsTwice {
+    fn read(&mut self, buffer: &mut [u8]) -> io::Result<usize> {
+        self.calls = self.calls.saturating_add(1);
+        match self.calls {
+            2 | 4 => Err(Error::from(self.kind)),
+            1 | 3 | 5 | 6 => Ok(buffer.len().min(1)),
+            _ => Ok(0),
+        }
+    }
+}
+
+// What the calls of that reader answer.
+const ANSWERS: [Option<usize>; 8] = [
+    Some(1),
+    None,
+    Some(1),
+    None,
+    Some(1),
+    Some(1),
+    Some(0),
+    Some(0),
+];
+
+const KINDS: [ErrorKind; 4] = [
+    ErrorKind::Interrupted,
+    ErrorKind::WouldBlock,
+    ErrorKind::IsADirectory,
+    ErrorKind::Other,
+];
+
+fn check_kept<R: Abort>(rt: &R, kind: ErrorKind, watch: Option<&Watch>) {
+    let mut reader = Kept::new(FailsTwice { kind, calls: 0 }, watch);
+    let mut room = [0; 16];
+    for answer in ANSWERS {
+        let found = reader.read(&mut room);
+        let is_right = match (&found, answer) {
+            (Ok(count), Some(wanted)) => *count == wanted,
+            (Err(error), None) => error.kind() == kind,
+            _ => false,
+        };
+        assert!(rt; is_right, "{kind}");
+    }
+}
+
+// A read is one read of what is within, whoever watches: none is tried again, and no failure is made up.
+#[test]
+fn a_text_that_is_kept_is_read_as_it_comes(rt: HostRuntime) {
+    let watch = Watch::new(rt.alloc(), rt.stderr(), Seed::fixed());
+    let watch = watch.ok().expect(&rt, "memory");
+    for kind in KINDS {
+        check_kept(&rt, kind, None);
+        check_kept(&rt, kind, Some(&watch));
     }
 }

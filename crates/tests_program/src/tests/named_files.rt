@@ -14,13 +14,16 @@ const FILES: [Named; 3] = [
     ("lines", b"0 hungry 0.0\n"),
 ];
 
-// Those files. It is noted what is asked for, how many files were to be opened, whether the standard input was to be read,
-// how many remarks are told, and why the run gave up, and how often.
+// Those files. It is noted what is asked for, how many files were to be opened, and how many before this was known. So is it
+// whether the standard input was to be read, how many files were open by then, how many remarks are told, and why the run gave
+// up, and how often.
 #[derive(Drop)]
 struct Memory {
     begun: u32,
     opened: u32,
+    opened_before: u32,
     reads_standard: bool,
+    opened_by_then: u32,
     is_quiet: bool,
     remarks: u32,
     gave_up: u32,
@@ -42,11 +45,13 @@ impl Host for Memory {
 
     fn begin(&mut self, request: &Request) {
         self.begun = self.begun.saturating_add(1);
+        self.opened_before = self.opened;
         self.is_quiet = request.is_quiet;
     }
 
     fn read_standard(&mut self) {
         self.reads_standard = true;
+        self.opened_by_then = self.opened;
     }
 
     fn open(&mut self, path: &str) -> Option<Marked<&'static [u8]>> {
@@ -181,7 +186,9 @@ fn new_host() -> Memory {
     Memory {
         begun: 0,
         opened: 0,
+        opened_before: 0,
         reads_standard: false,
+        opened_by_then: 0,
         is_quiet: false,
         remarks: 0,
         gave_up: 0,
@@ -199,12 +206,20 @@ fn check_files(rt: &impl Machine, place: usize, row: &Row) {
     same_at(rt, "the rest", place, left, wanted);
     same_at(rt, "the beginnings", place, host.begun, 1);
     same_at(rt, "the files", place, host.opened, row.opened);
+    check_when(rt, place, row, &host);
+}
+
+// No file is opened before the host knows what is asked for, and each is open by when the standard input is read.
+fn check_when(rt: &impl Machine, place: usize, row: &Row, host: &Memory) {
+    same_at(rt, "the first files", place, host.opened_before, 0);
+    let wanted = if row.is_read { row.opened } else { 0 };
+    let found = (host.reads_standard, host.opened_by_then);
     same_at(
         rt,
         "the standard input",
         place,
-        host.reads_standard,
-        row.is_read,
+        found,
+        (row.is_read, wanted),
     );
 }
 

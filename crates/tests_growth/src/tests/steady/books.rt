@@ -61,7 +61,7 @@ fn pass_between(book: &mut ForkBook, slots: u32, a: u32, b: u32)
         return;
     }
     if let Some(id) = book.find(a, b) {
-        let fork = book.fork(id);
+        let (fork, _ends) = (book.fork(id), book.ends(id));
         let passed = Fork {
             at_first: !fork.at_first,
             dirty: !fork.dirty,
