@@ -1,139 +1,183 @@
-//! Worked calls of an arbiter, with the messages that each costs.
+//! Worked calls of an arbiter, with the messages that each costs and what is asked between them.
 
 mod edge;
-mod lacking;
-mod withdrawal;
 
 use crate::tests::same::{same, same_at};
 use dine_arbiter::Arbiter;
 use dine_forks::Fork;
-use dine_words::Call::{Begin, Conflict, Finish, Hungry, Join, Leave, Separate};
-use dine_words::Refusal::{Apart, Full, NotYet, Unknown, WrongState};
-use dine_words::Reply::{Done, Joined, Refused};
-use dine_words::{Call, Limits, Reply, State, Task};
-use std::alloc::Global;
+use dine_words::{Call, JournalVersion, Limits, Reply, State, Task, push_number};
+use std::alloc::{AllocError, Global};
 use std::process::Abort;
-use std::test::Fail;
-use tests_kit::{A, B, C, D, E};
+use tests_kit::{A, Machine};
 
-// A task that joins in a slot which was left once.
-const NEXT_IN_SECOND_SLOT: Task = Task { slot: 1, born: 2 };
-
-// A call, the reply to it, and the messages after it.
-type Row = (Call, Reply, u32);
-
-fn arbiter(alloc: Global, tasks: u32, conflicts: u32) -> Result<Arbiter, Fail> {
-    let limits = Limits::new(tasks, conflicts).ok_or("the limits are in range")?;
-    Ok(Arbiter::new(alloc, limits)?)
+// What a row shows, the most tasks and conflicts, and the steps, each with its answer. A call has its reply, and behind a comma
+// the messages that it costs, if it costs some. Others are questions (`says`).
+struct Case {
+    name: &'static str,
+    limits: (u32, u32),
+    steps: &'static str,
 }
 
-// The reply to one call, and the messages after it.
-fn act(arbiter: &mut Arbiter, call: Call) -> Option<(Reply, u32)> {
-    if arbiter.clock() == u64::MAX {
-        return None;
-    }
+const CASES: [Case; 14] = [
+    Case {
+        name: "a neighbour waits for the meal",
+        limits: (64, 256),
+        steps: "messages -> 0; next -> none; join -> joined 0.0; join -> joined 1.1; \
+            conflict 0.0 1.1 -> done; hungry 0.0 -> done, 2; begin 0.0 -> done; \
+            hungry 1.1 -> done, 1; begin 1.1 -> refused not-yet; finish 0.0 -> done, 1; \
+            begin 1.1 -> done; state 1.1 -> eating; ready 1.1 -> no; clock -> 3; tasks -> 64",
+    },
+    Case {
+        name: "a meal is placed by its end",
+        limits: (64, 256),
+        steps: "join -> joined 0.0; join -> joined 1.1; hungry 0.0 -> done; begin 0.0 -> done; \
+            hungry 1.1 -> done; begin 1.1 -> done; finish 1.1 -> done; conflict 0.0 1.1 -> done; \
+            hungry 1.1 -> done, 1; begin 1.1 -> refused not-yet; finish 0.0 -> done, 1; \
+            hungry 0.0 -> done, 1; begin 0.0 -> refused not-yet; begin 1.1 -> done",
+    },
+    Case {
+        name: "a book lends a record for each conflict, and a task is told its neighbours",
+        limits: (64, 256),
+        steps: "join -> joined 0.0; join -> joined 1.1; conflict 0.0 1.1 -> done; \
+            hungry 1.1 -> done; hungry 0.0 -> done, 3; conflicts -> 1; \
+            fork -> of 0 and 1, clean at 0, token at 0; neighbours 0.0 -> 1.1; \
+            neighbours 2.2 -> none",
+    },
+    Case {
+        name: "the ready task that ate first is next",
+        limits: (64, 256),
+        steps: "join -> joined 0.0; join -> joined 1.1; join -> joined 2.2; join -> joined 3.3; \
+            join -> joined 4.4; conflict 0.0 1.1 -> done; conflict 1.1 2.2 -> done; \
+            conflict 2.2 3.3 -> done; conflict 3.3 4.4 -> done; conflict 4.4 0.0 -> done; \
+            hungry 0.0 -> done, 4; hungry 1.1 -> done, 3; hungry 2.2 -> done, 3; \
+            hungry 3.3 -> done, 3; hungry 4.4 -> done, 2; next -> 0.0; begin 0.0 -> done; \
+            next -> none",
+    },
+    // The first meal ends where nobody is hungry, the second where a stranger is, the third where the neighbour is too.
+    Case {
+        name: "a meal that ends sends forks to hungry neighbours alone",
+        limits: (64, 256),
+        steps: "join -> joined 0.0; join -> joined 1.1; join -> joined 2.2; \
+            conflict 0.0 1.1 -> done; hungry 0.0 -> done, 2; begin 0.0 -> done; \
+            finish 0.0 -> done; hungry 2.2 -> done; hungry 0.0 -> done; begin 0.0 -> done; \
+            finish 0.0 -> done; hungry 0.0 -> done; begin 0.0 -> done; hungry 1.1 -> done, 1; \
+            finish 0.0 -> done, 1; begin 1.1 -> done; finish 1.1 -> done; begin 2.2 -> done; \
+            finish 2.2 -> done",
+    },
+    Case {
+        name: "a slot is used again under a new name",
+        limits: (2, 1),
+        steps: "join -> joined 0.0; join -> joined 1.1; join -> refused full; \
+            conflict 0.0 1.1 -> done; hungry 0.0 -> done, 2; leave 0.0 -> refused hungry; \
+            leave 1.1 -> done; join -> joined 1.2; leave 1.1 -> refused unknown; \
+            conflict 0.0 2.2 -> refused unknown; separate 0.0 1.2 -> refused apart; \
+            conflict 1.2 0.0 -> done, 2; separate 0.0 1.2 -> done; conflict 0.0 1.2 -> done, 2; \
+            conflict 1.1 0.0 -> refused unknown",
+    },
+    Case {
+        name: "a slot tells the task that sits there",
+        limits: (64, 256),
+        steps: "join -> joined 0.0; join -> joined 1.1; leave 0.0 -> done; seat 0 -> none; \
+            seat 1 -> 1.1; seat 64 -> none",
+    },
+    Case {
+        name: "a hungry neighbour is found at either end",
+        limits: (64, 256),
+        steps: "join -> joined 0.0; join -> joined 1.1; join -> joined 2.2; join -> joined 3.3; \
+            conflict 0.0 1.1 -> done; conflict 2.2 1.1 -> done; beside -> no no no no no; \
+            hungry 2.2 -> done; beside -> no yes no no no; hungry 1.1 -> done, 3; \
+            beside -> yes yes yes no no; conflict 3.3 2.2 -> done, 2; beside -> yes yes yes yes no; \
+            separate 1.1 2.2 -> done; beside -> yes no no yes no; begin 2.2 -> done; \
+            beside -> yes no no no no; begin 1.1 -> done; beside -> no no no no no; \
+            hungry 0.0 -> done, 1; beside -> no yes no no no",
+    },
+    Case {
+        name: "a hub asks each of its neighbours",
+        limits: (4096, 4095),
+        steps: "all -> join; all -> conflict; all -> hungry; next -> 1.1; \
+            hungry 0.0 -> done, 12285; begin 0.0 -> done; next -> none",
+    },
+    Case {
+        name: "a task that joins gets the least free slot",
+        limits: (4096, 1),
+        steps: "all -> join; leave 2000.2000 -> done; leave 64.64 -> done; \
+            leave 4095.4095 -> done; join -> joined 64.4096; join -> joined 2000.4097; \
+            join -> joined 4095.4098; join -> refused full",
+    },
+    // The first gets its fork, and keeps it from the next two. Of these one gets the fork that is given up, and one that of a
+    // conflict that ends. Then one withdraws, and the other gets the fork. That one gives it back, and lacks it, which isn't told.
+    Case {
+        name: "who lacks a fork is told until its last one comes",
+        limits: (64, 256),
+        steps: "join -> joined 0.0; join -> joined 1.1; join -> joined 2.2; \
+            conflict 0.0 1.1 -> done; lacks 0 -> 0; hungry 0.0 -> done, 2; lacks 0 -> 0; \
+            hungry 1.1 -> done, 1; lacks 0 -> 2; conflict 1.1 2.2 -> done, 2; lacks 0 -> 2; \
+            hungry 2.2 -> done, 1; lacks 0 -> 6; begin 0.0 -> done; lacks 0 -> 6; \
+            finish 0.0 -> done, 1; lacks 0 -> 4; begin 1.1 -> done; lacks 0 -> 4; \
+            separate 1.1 2.2 -> done; lacks 0 -> 0; begin 2.2 -> done; lacks 0 -> 0; \
+            hungry 0.0 -> done, 1; lacks 0 -> 1; finish 1.1 -> done, 1; lacks 0 -> 0; \
+            hungry 1.1 -> done, 1; lacks 0 -> 2; withdraw 0.0 -> done, 1; lacks 0 -> 0; \
+            hungry 0.0 -> done, 3; lacks 0 -> 0; withdraw 1.1 -> done, 1; lacks 0 -> 0; \
+            begin 0.0 -> done; lacks 0 -> 0",
+    },
+    Case {
+        name: "who lacks a fork is told in each word",
+        limits: (128, 1),
+        steps: "all -> join; conflict 64.64 127.127 -> done; lacks 1 -> 0; \
+            hungry 64.64 -> done, 2; lacks 1 -> 0; hungry 127.127 -> done, 1; \
+            lacks 1 -> 9223372036854775808; lacks 0 -> 0; withdraw 64.64 -> done, 1; \
+            lacks 1 -> 0; begin 127.127 -> done; lacks 1 -> 0",
+    },
+    Case {
+        name: "a task withdraws beside a thinker, a hungry one and an eater, and gives a clean fork back dirty",
+        limits: (64, 256),
+        steps: "join -> joined 0.0; join -> joined 1.1; conflict 0.0 1.1 -> done; \
+            hungry 0.0 -> done, 2; withdraw 0.0 -> done, 2; hungry 0.0 -> done, 2; \
+            hungry 1.1 -> done, 1; withdraw 0.0 -> done, 1; \
+            fork -> of 0 and 1, dirty at 1, token at 0; begin 1.1 -> done; \
+            hungry 0.0 -> done, 1; begin 0.0 -> refused not-yet; withdraw 0.0 -> done, 1; \
+            hungry 0.0 -> done, 1; finish 1.1 -> done, 1; begin 0.0 -> done",
+    },
+    Case {
+        name: "only a hungry task withdraws",
+        limits: (64, 256),
+        steps: "join -> joined 0.0; state 0.0 -> thinking; withdraw 0.0 -> refused thinking; \
+            state 0.0 -> thinking; hungry 0.0 -> done; state 0.0 -> hungry; \
+            withdraw 0.0 -> done; state 0.0 -> thinking; begin 0.0 -> refused thinking; \
+            leave 0.0 -> done; state 0.0 -> none; withdraw 0.0 -> refused unknown",
+    },
+];
+
+// The reply to one call, which is what was foretold.
+fn act(rt: &impl Abort, arbiter: &mut Arbiter, call: Call) -> Reply {
     let expected = arbiter.reply_to(call);
+    let clock = arbiter.clock();
+    assert!(rt; clock < u64::MAX);
     let reply = arbiter.apply(call);
-    if reply == expected {
-        Some((reply, arbiter.messages()))
-    } else {
-        None
+    same(rt, reply, expected);
+    reply
+}
+
+// The task at a slot, where none was left so far.
+fn task_of(slot: u32) -> Task {
+    let born = u64::from(slot);
+    Task { slot, born }
+}
+
+// Each task joins, each but the first gets in conflict with it, or grows hungry. None of that costs a message.
+fn all(rt: &impl Abort, arbiter: &mut Arbiter, what: &str) {
+    for slot in 0..arbiter.limits().tasks {
+        let task = task_of(slot);
+        let (call, reply) = match what {
+            "join" => (Call::Join, Reply::Joined(task)),
+            "conflict" => (Call::Conflict(A, task), Reply::Done),
+            _ => (Call::Hungry(task), Reply::Done),
+        };
+        if what == "join" || slot != 0 {
+            same_at(rt, slot, act(rt, arbiter, call), reply);
+            same_at(rt, slot, arbiter.messages(), 0);
+        }
     }
-}
-
-// Makes the calls of the rows. Each is answered as its row says.
-fn makes<R: Abort>(rt: &R, arbiter: &mut Arbiter, rows: &[Row]) {
-    for (place, (call, reply, messages)) in rows.iter().enumerate() {
-        same_at(rt, place, act(arbiter, *call), Some((*reply, *messages)));
-    }
-}
-
-// The arbiter that has made the calls of the rows, which stand in two parts.
-fn arbiter_after<R: Abort>(
-    rt: &R,
-    alloc: Global,
-    first: &[Row],
-    then: &[Row],
-) -> Result<Arbiter, Fail> {
-    let mut arbiter = arbiter(alloc, 64, 256)?;
-    makes(rt, &mut arbiter, first);
-    makes(rt, &mut arbiter, then);
-    Ok(arbiter)
-}
-
-// Makes the calls of the rows at an arbiter of these limits.
-fn answers<R: Abort>(
-    rt: &R,
-    alloc: Global,
-    (tasks, conflicts): (u32, u32),
-    rows: &[Row],
-) -> Result<(), Fail> {
-    let mut arbiter = arbiter(alloc, tasks, conflicts)?;
-    makes(rt, &mut arbiter, rows);
-    Ok(())
-}
-
-// The clock, the most tasks, and what the second task does and whether it is ready.
-fn standing(arbiter: &Arbiter) -> (u64, u32, Option<State>, bool) {
-    (
-        arbiter.clock(),
-        arbiter.limits().tasks,
-        arbiter.state(B),
-        arbiter.is_ready(B),
-    )
-}
-
-// At an empty table nobody is next.
-fn check_empty<R: Abort>(rt: &R, alloc: Global) -> Result<(), Fail> {
-    let arbiter = arbiter(alloc, 64, 256)?;
-    same(rt, (arbiter.messages(), arbiter.next_ready()), (0, None));
-    Ok(())
-}
-
-const TWO_IN_CONFLICT: [Row; 3] = [
-    (Join, Joined(A), 0),
-    (Join, Joined(B), 0),
-    (Conflict(A, B), Done, 0),
-];
-
-const A_NEIGHBOUR_WAITS: [Row; 6] = [
-    (Hungry(A), Done, 2),
-    (Begin(A), Done, 0),
-    (Hungry(B), Done, 1),
-    (Begin(B), Refused(NotYet), 0),
-    (Finish(A), Done, 1),
-    (Begin(B), Done, 0),
-];
-
-#[test]
-fn a_neighbour_waits_for_the_meal(rt: HostRuntime) -> Result<(), Fail> {
-    check_empty(&rt, rt.alloc())?;
-    let arbiter = arbiter_after(&rt, rt.alloc(), &TWO_IN_CONFLICT, &A_NEIGHBOUR_WAITS)?;
-    let eats = (3, 64, Some(State::Eating), false);
-    same(&rt, standing(&arbiter), eats);
-    Ok(())
-}
-
-const THE_EARLIER_MEAL_GOES_FIRST: [Row; 14] = [
-    (Join, Joined(A), 0),
-    (Join, Joined(B), 0),
-    (Hungry(A), Done, 0),
-    (Begin(A), Done, 0),
-    (Hungry(B), Done, 0),
-    (Begin(B), Done, 0),
-    (Finish(B), Done, 0),
-    (Conflict(A, B), Done, 0),
-    (Hungry(B), Done, 1),
-    (Begin(B), Refused(NotYet), 0),
-    (Finish(A), Done, 1),
-    (Hungry(A), Done, 1),
-    (Begin(A), Refused(NotYet), 0),
-    (Begin(B), Done, 0),
-];
-
-#[test]
-fn a_meal_is_placed_by_its_end(rt: HostRuntime) -> Result<(), Fail> {
-    answers(&rt, rt.alloc(), (64, 256), &THE_EARLIER_MEAL_GOES_FIRST)
 }
 
 // The ends of the first conflict of the first slot, and its fork.
@@ -143,298 +187,165 @@ fn first_edge(arbiter: &Arbiter) -> Option<((u32, u32), Fork)> {
     Some((book.ends(id), book.fork(id)))
 }
 
-// Those ends, whether the fork is at the first of them, and whether it is dirty.
-fn first_conflict(arbiter: &Arbiter) -> Option<(u32, u32, bool, bool)> {
-    match first_edge(arbiter) {
-        Some(((first, second), fork)) => Some((first, second, fork.at_first, fork.dirty)),
-        None => None,
+// Says them: where the fork is, if it is clean there, and at which end the request token is.
+fn says_edge(arbiter: &Arbiter, out: &mut Vec<u8>) -> Result<(), AllocError> {
+    let Some(((first, second), fork)) = first_edge(arbiter) else {
+        return out.extend_from_slice(b"none");
+    };
+    let (of_fork, of_token) = (
+        if fork.at_first { first } else { second },
+        if fork.token_first { first } else { second },
+    );
+    out.extend_from_slice(b"of ")?;
+    push_number(out, u64::from(first))?;
+    out.extend_from_slice(b" and ")?;
+    push_number(out, u64::from(second))?;
+    out.extend_from_slice(if fork.dirty {
+        b", dirty at "
+    } else {
+        b", clean at "
+    })?;
+    push_number(out, u64::from(of_fork))?;
+    out.extend_from_slice(b", token at ")?;
+    push_number(out, u64::from(of_token))
+}
+
+fn says_task(task: Option<Task>, out: &mut Vec<u8>) -> Result<(), AllocError> {
+    match task {
+        Some(task) => task.write_to(out),
+        None => out.extend_from_slice(b"none"),
     }
 }
 
-const THE_SECOND_IS_HUNGRY_FIRST: [Row; 2] = [(Hungry(B), Done, 0), (Hungry(A), Done, 3)];
-
-// Of two in conflict the second was hungry first.
-fn both_are_hungry<R: Abort>(rt: &R, alloc: Global) -> Result<Arbiter, Fail> {
-    arbiter_after(rt, alloc, &TWO_IN_CONFLICT, &THE_SECOND_IS_HUNGRY_FIRST)
+fn says_state(state: Option<State>, out: &mut Vec<u8>) -> Result<(), AllocError> {
+    out.extend_from_slice(state.map_or("none", State::text).as_bytes())
 }
 
-#[test]
-fn a_book_lends_a_record_for_each_conflict(rt: HostRuntime) -> Result<(), Fail> {
-    let arbiter = both_are_hungry(&rt, rt.alloc())?;
-    same(&rt, arbiter.book().len(), 1);
-    same(&rt, first_conflict(&arbiter), Some((0, 1, true, false)));
+fn says_number(number: u32, out: &mut Vec<u8>) -> Result<(), AllocError> {
+    push_number(out, u64::from(number))
+}
+
+// Of which of the first five tasks a neighbour is hungry.
+fn says_beside(arbiter: &Arbiter, out: &mut Vec<u8>) -> Result<(), AllocError> {
+    for slot in 0..5 {
+        let is_beside = arbiter.has_hungry_neighbour(task_of(slot));
+        out.extend_from_slice(if slot == 0 { b"" } else { b" " })?;
+        out.extend_from_slice(if is_beside { b"yes" } else { b"no" })?;
+    }
     Ok(())
 }
 
-fn neighbours(alloc: Global, arbiter: &Arbiter, task: Task) -> Result<Vec<Task>, Fail> {
-    let found = arbiter.neighbours(alloc, task)?;
-    Ok(found.ok_or("the task is present")?)
-}
-
-const JUST_B: [Task; 1] = [B];
-
-#[test]
-fn a_task_is_told_its_neighbours(rt: HostRuntime) -> Result<(), Fail> {
-    let arbiter = both_are_hungry(&rt, rt.alloc())?;
-    let neighbours = neighbours(rt.alloc(), &arbiter, A)?;
-    same(&rt, neighbours.as_slice(), JUST_B.as_slice());
-    Ok(())
-}
-
-// Five on a ring, all hungry.
-const A_HUNGRY_RING: [Row; 15] = [
-    (Join, Joined(A), 0),
-    (Join, Joined(B), 0),
-    (Join, Joined(C), 0),
-    (Join, Joined(D), 0),
-    (Join, Joined(E), 0),
-    (Conflict(A, B), Done, 0),
-    (Conflict(B, C), Done, 0),
-    (Conflict(C, D), Done, 0),
-    (Conflict(D, E), Done, 0),
-    (Conflict(E, A), Done, 0),
-    (Hungry(A), Done, 4),
-    (Hungry(B), Done, 3),
-    (Hungry(C), Done, 3),
-    (Hungry(D), Done, 3),
-    (Hungry(E), Done, 2),
-];
-
-#[test]
-fn the_ready_task_that_ate_first_is_next(rt: HostRuntime) -> Result<(), Fail> {
-    let mut arbiter = arbiter_after(&rt, rt.alloc(), &A_HUNGRY_RING, &[])?;
-    same(&rt, arbiter.next_ready(), Some(A));
-    same(&rt, act(&mut arbiter, Begin(A)), Some((Done, 0)));
-    same(&rt, arbiter.next_ready(), None);
-    Ok(())
-}
-
-// The first meal ends where nobody is hungry, the second where a stranger is, the third where the neighbour is too.
-const THREE_MEALS_END: [Row; 19] = [
-    (Join, Joined(A), 0),
-    (Join, Joined(B), 0),
-    (Join, Joined(C), 0),
-    (Conflict(A, B), Done, 0),
-    (Hungry(A), Done, 2),
-    (Begin(A), Done, 0),
-    (Finish(A), Done, 0),
-    (Hungry(C), Done, 0),
-    (Hungry(A), Done, 0),
-    (Begin(A), Done, 0),
-    (Finish(A), Done, 0),
-    (Hungry(A), Done, 0),
-    (Begin(A), Done, 0),
-    (Hungry(B), Done, 1),
-    (Finish(A), Done, 1),
-    (Begin(B), Done, 0),
-    (Finish(B), Done, 0),
-    (Begin(C), Done, 0),
-    (Finish(C), Done, 0),
-];
-
-#[test]
-fn a_meal_that_ends_sends_forks_to_hungry_neighbours_alone(rt: HostRuntime) -> Result<(), Fail> {
-    answers(&rt, rt.alloc(), (64, 256), &THREE_MEALS_END)
-}
-
-const A_SLOT_IS_USED_AGAIN: [Row; 15] = [
-    (Join, Joined(A), 0),
-    (Join, Joined(B), 0),
-    (Join, Refused(Full), 0),
-    (Conflict(A, B), Done, 0),
-    (Hungry(A), Done, 2),
-    (Leave(A), Refused(WrongState(State::Hungry)), 0),
-    (Leave(B), Done, 0),
-    (Join, Joined(NEXT_IN_SECOND_SLOT), 0),
-    (Leave(B), Refused(Unknown), 0),
-    (Conflict(A, C), Refused(Unknown), 0),
-    (Separate(A, NEXT_IN_SECOND_SLOT), Refused(Apart), 0),
-    (Conflict(NEXT_IN_SECOND_SLOT, A), Done, 2),
-    (Separate(A, NEXT_IN_SECOND_SLOT), Done, 0),
-    (Conflict(A, NEXT_IN_SECOND_SLOT), Done, 2),
-    (Conflict(B, A), Refused(Unknown), 0),
-];
-
-#[test]
-fn a_slot_is_used_again_under_a_new_name(rt: HostRuntime) -> Result<(), Fail> {
-    answers(&rt, rt.alloc(), (2, 1), &A_SLOT_IS_USED_AGAIN)
-}
-
-const THE_FIRST_OF_TWO_LEFT: [Row; 3] = [
-    (Join, Joined(A), 0),
-    (Join, Joined(B), 0),
-    (Leave(A), Done, 0),
-];
-
-// The tasks at the first two slots, and at the one behind all.
-fn seated(arbiter: &Arbiter) -> (Option<Task>, Option<Task>, Option<Task>) {
-    (arbiter.task_at(0), arbiter.task_at(1), arbiter.task_at(64))
-}
-
-#[test]
-fn a_slot_tells_the_task_that_sits_there(rt: HostRuntime) -> Result<(), Fail> {
-    let arbiter = arbiter_after(&rt, rt.alloc(), &THE_FIRST_OF_TWO_LEFT, &[])?;
-    same(&rt, seated(&arbiter), (None, Some(B), None));
-    Ok(())
-}
-
-// Each call, and of which of the four tasks a neighbour is hungry after it.
-type HungryRow = (Call, [bool; 4]);
-
-const WHO_HAS_A_HUNGRY_NEIGHBOUR: [HungryRow; 13] = [
-    (Join, [false, false, false, false]),
-    (Join, [false, false, false, false]),
-    (Join, [false, false, false, false]),
-    (Join, [false, false, false, false]),
-    (Conflict(A, B), [false, false, false, false]),
-    (Conflict(C, B), [false, false, false, false]),
-    (Hungry(C), [false, true, false, false]),
-    (Hungry(B), [true, true, true, false]),
-    (Conflict(D, C), [true, true, true, true]),
-    (Separate(B, C), [true, false, false, true]),
-    (Begin(C), [true, false, false, false]),
-    (Begin(B), [false, false, false, false]),
-    (Hungry(A), [false, true, false, false]),
-];
-
-// Of which of the four tasks a neighbour is hungry after a call, and whether one of a fifth, who isn't there, is.
-fn hungry_after(arbiter: &mut Arbiter, call: Call) -> Option<([bool; 4], bool)> {
-    let _ = act(arbiter, call)?;
-    let four = [
-        arbiter.has_hungry_neighbour(A),
-        arbiter.has_hungry_neighbour(B),
-        arbiter.has_hungry_neighbour(C),
-        arbiter.has_hungry_neighbour(D),
-    ];
-    Some((four, arbiter.has_hungry_neighbour(E)))
-}
-
-fn check_hungry_neighbours<R: Abort>(rt: &R, arbiter: &mut Arbiter, rows: &[HungryRow]) {
-    for (place, (call, wanted)) in rows.iter().enumerate() {
-        same_at(
-            rt,
-            place,
-            hungry_after(arbiter, *call),
-            Some((*wanted, false)),
-        );
+// The bits of those of 64 slots that surely lack a fork.
+fn says_lacking(arbiter: &Arbiter, word: u32, out: &mut Vec<u8>) -> Result<(), AllocError> {
+    if u64::from(word) * 64 < u64::from(arbiter.limits().tasks) {
+        push_number(out, arbiter.book().lacking_word(word as usize))
+    } else {
+        out.extend_from_slice(b"none")
     }
 }
 
-#[test]
-fn a_hungry_neighbour_is_found_at_either_end(rt: HostRuntime) -> Result<(), Fail> {
-    let mut arbiter = arbiter(rt.alloc(), 64, 256)?;
-    check_hungry_neighbours(&rt, &mut arbiter, &WHO_HAS_A_HUNGRY_NEIGHBOUR);
-    Ok(())
-}
-
-// The task at a slot, where none was left so far.
-fn task_of(slot: u32) -> Task {
-    Task {
-        slot,
-        born: u64::from(slot),
+fn says_neighbours(
+    alloc: Global,
+    arbiter: &Arbiter,
+    task: Task,
+    out: &mut Vec<u8>,
+) -> Result<(), AllocError> {
+    match arbiter.neighbours(alloc, task)? {
+        Some(tasks) => {
+            for (place, neighbour) in tasks.iter().enumerate() {
+                out.extend_from_slice(if place == 0 { b"" } else { b" " })?;
+                neighbour.write_to(out)?;
+            }
+            Ok(())
+        }
+        None => out.extend_from_slice(b"none"),
     }
 }
 
-// So many tasks join, each of which gets the next slot.
-fn join_all(arbiter: &mut Arbiter, tasks: u32) -> bool {
-    for slot in 0..tasks {
-        if act(arbiter, Join) != Some((Joined(task_of(slot)), 0)) {
-            return false;
+// What a question about the whole table is answered, or about a number behind it.
+fn says(arbiter: &Arbiter, asked: &str, of: u32, out: &mut Vec<u8>) -> Result<(), AllocError> {
+    match asked {
+        "messages" => says_number(arbiter.messages(), out),
+        "next" => says_task(arbiter.next_ready(), out),
+        "clock" => push_number(out, arbiter.clock()),
+        "tasks" => says_number(arbiter.limits().tasks, out),
+        "conflicts" => says_number(arbiter.book().len(), out),
+        "fork" => says_edge(arbiter, out),
+        "beside" => says_beside(arbiter, out),
+        "seat" => says_task(arbiter.task_at(of), out),
+        _ => says_lacking(arbiter, of, out),
+    }
+}
+
+// What a question about a task is answered.
+fn says_of(
+    alloc: Global,
+    arbiter: &Arbiter,
+    asked: &str,
+    task: Task,
+    out: &mut Vec<u8>,
+) -> Result<(), AllocError> {
+    match asked {
+        "state" => says_state(arbiter.state(task), out),
+        "ready" if arbiter.is_ready(task) => out.extend_from_slice(b"yes"),
+        "ready" => out.extend_from_slice(b"no"),
+        _ => says_neighbours(alloc, arbiter, task, out),
+    }
+}
+
+// Makes a call, and says the reply and the messages.
+fn makes(
+    rt: &impl Abort,
+    arbiter: &mut Arbiter,
+    call: Call,
+    out: &mut Vec<u8>,
+) -> Result<(), AllocError> {
+    act(rt, arbiter, call).write_to(out)?;
+    match arbiter.messages() {
+        0 => Ok(()),
+        messages => {
+            out.extend_from_slice(b", ")?;
+            says_number(messages, out)
         }
     }
-    true
 }
 
-// An arbiter at which so many tasks have joined, and no more have room.
-fn full_table(alloc: Global, tasks: u32, conflicts: u32) -> Result<Arbiter, Fail> {
-    let mut arbiter = arbiter(alloc, tasks, conflicts)?;
-    if !join_all(&mut arbiter, tasks) {
-        return Err("each task gets the next slot".into());
+// Takes a step, and says what it is answered.
+fn takes(
+    rt: &impl Machine,
+    arbiter: &mut Arbiter,
+    asked: &str,
+    out: &mut Vec<u8>,
+) -> Result<(), AllocError> {
+    if let Some((call, [])) = Call::read_front(JournalVersion::Two, asked.as_bytes()) {
+        return makes(rt, arbiter, call, out);
     }
-    Ok(arbiter)
-}
-
-// Each task but the first gets in conflict with the first. None of that costs a message.
-fn all_conflict_with_first(arbiter: &mut Arbiter, tasks: u32) -> bool {
-    for slot in 1..tasks {
-        if act(arbiter, Conflict(A, task_of(slot))) != Some((Done, 0)) {
-            return false;
-        }
+    let (question, of) = asked.split_once(' ').unwrap_or((asked, "0"));
+    match Task::read(of) {
+        Some(task) => says_of(rt.alloc(), arbiter, question, task, out),
+        None => says(arbiter, question, of.parse::<u32>().unwrap_or(0), out),
     }
-    true
 }
-
-// Each task but the first grows hungry. None of that costs a message.
-fn all_others_grow_hungry(arbiter: &mut Arbiter, tasks: u32) -> bool {
-    for slot in 1..tasks {
-        if act(arbiter, Hungry(task_of(slot))) != Some((Done, 0)) {
-            return false;
-        }
-    }
-    true
-}
-
-const THE_HUB_EATS: [Row; 2] = [(Hungry(A), Done, 12285), (Begin(A), Done, 0)];
 
 #[test]
-fn a_hub_asks_each_of_its_neighbours(rt: HostRuntime) -> Result<(), Fail> {
-    let mut arbiter = full_table(rt.alloc(), 4096, 4095)?;
-    same(&rt, all_conflict_with_first(&mut arbiter, 4096), true);
-    same(&rt, all_others_grow_hungry(&mut arbiter, 4096), true);
-    same(&rt, arbiter.next_ready(), Some(B));
-    makes(&rt, &mut arbiter, &THE_HUB_EATS);
-    same(&rt, arbiter.next_ready(), None);
-    Ok(())
+fn an_arbiter_answers(rt: HostRuntime) {
+    for case in &CASES {
+        let (tasks, conflicts) = case.limits;
+        let limits = Limits::new(tasks, conflicts).expect(&rt, "the limits are in range");
+        let mut arbiter = Arbiter::new(rt.alloc(), limits).expect(&rt, "there is memory");
+        for step in case.steps.split("; ") {
+            answers(&rt, &mut arbiter, case.name, step);
+        }
+    }
 }
 
-const THREE_LEAVE_AND_FOUR_JOIN: [Row; 7] = [
-    (
-        Leave(Task {
-            slot: 2000,
-            born: 2000,
-        }),
-        Done,
-        0,
-    ),
-    (Leave(Task { slot: 64, born: 64 }), Done, 0),
-    (
-        Leave(Task {
-            slot: 4095,
-            born: 4095,
-        }),
-        Done,
-        0,
-    ),
-    (
-        Join,
-        Joined(Task {
-            slot: 64,
-            born: 4096,
-        }),
-        0,
-    ),
-    (
-        Join,
-        Joined(Task {
-            slot: 2000,
-            born: 4097,
-        }),
-        0,
-    ),
-    (
-        Join,
-        Joined(Task {
-            slot: 4095,
-            born: 4098,
-        }),
-        0,
-    ),
-    (Join, Refused(Full), 0),
-];
-
-#[test]
-fn a_task_that_joins_gets_the_least_free_slot(rt: HostRuntime) -> Result<(), Fail> {
-    let mut arbiter = full_table(rt.alloc(), 4096, 1)?;
-    makes(&rt, &mut arbiter, &THREE_LEAVE_AND_FOUR_JOIN);
-    Ok(())
+// A step is answered as it says.
+fn answers(rt: &impl Machine, arbiter: &mut Arbiter, name: &str, step: &str) {
+    let (asked, wanted) = step.split_once(" -> ").expect(rt, "an answer");
+    if asked == "all" {
+        return all(rt, arbiter, wanted);
+    }
+    let mut out = Vec::new(rt.alloc());
+    takes(rt, arbiter, asked, &mut out).expect(rt, "there is memory");
+    assert_eq!(rt; out.as_slice(), wanted.as_bytes(), "{name}: {step}");
 }
