@@ -1,5 +1,6 @@
 //! Each library by itself, and the plain table and the arbiter side by side.
 
+mod bars;
 mod drawn_journals;
 mod explain;
 mod inputs;
