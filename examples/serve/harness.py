@@ -21,15 +21,15 @@ class Failed(Exception):
     """A test failed, for this reason."""
 
 
-class Skipped(Exception):
-    """A test has no tool here."""
+class Lacking(Exception):
+    """A program isn't here that a test needs."""
 
 
 def need(*tools):
-    """Skips where one of these programs isn't here."""
+    """These programs are here."""
     for tool in tools:
         if not shutil.which(tool):
-            raise Skipped(f"{tool} is not here")
+            raise Lacking(f"{tool} isn't here: .ci/tools installs it")
 
 
 def same(what, found, wanted):
