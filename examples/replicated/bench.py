@@ -4,7 +4,7 @@ import os
 import signal
 import subprocess
 
-from cluster import Failed, Line, Member, Node, await_that, contents, free_ports, same
+from cluster import Failed, Line, Member, Node, await_that, contents, free_addresses, same
 
 # The lease of a test's clients: of a test that doesn't wait for its end, and of one that does.
 LONG_LEASE, SHORT_LEASE = 60, 3
@@ -12,15 +12,16 @@ LONG_LEASE, SHORT_LEASE = 60, 3
 SLACK = 5
 
 
-class Skipped(Exception):
-    """A test has no tool here."""
+# The ports at a host where its member listens, for clients and for the other members.
+PORTS = (2379, 2380)
 
 
 @contextlib.contextmanager
-def members_of(folder, count, *words):
-    """So many members of etcd, which have a leader."""
-    ports = free_ports(2 * count)
-    members = [Member(os.path.join(folder, f"member{number}"), number, ports, *words) for number in range(count)]
+def members_of(folder, count, *words, hosts=()):
+    """So many members of etcd, which have a leader. If there are hosts, each has one member."""
+    addresses = [f"{host.address}:{port}" for host in hosts for port in PORTS] or free_addresses(2 * count)
+    at_hosts = [host.words for host in hosts] or [()] * count
+    members = [Member(os.path.join(folder, f"member{number}"), number, addresses, *words, host=at_hosts[number]) for number in range(count)]
     try:
         for member in members:
             os.mkdir(member.path)
@@ -56,12 +57,13 @@ class Bench:
         for node in self.nodes:
             node.kill()
 
-    def node(self, *words, lease=LONG_LEASE, is_started=True, **more):
-        """Another node of the test's log."""
+    def node(self, *words, lease=LONG_LEASE, is_started=True, beside=0, **more):
+        """Another node of the test's log, beside this member of etcd and at its host."""
         folder = os.path.join(self.folder, f"node{len(self.nodes)}")
         os.mkdir(folder)
-        etcd = ",".join(member.url(member.number) for member in self.members)
-        node = Node(self.program, folder, etcd, "--log", self.log, "--lease", str(lease), *words, **more)
+        members = self.members[beside:] + self.members[:beside]
+        etcd = ",".join(member.url(member.number) for member in members)
+        node = Node(self.program, folder, etcd, "--log", self.log, "--lease", str(lease), *words, host=members[0].host, **more)
         self.nodes.append(node)
         if is_started:
             node.start()
@@ -100,6 +102,11 @@ def two_in_conflict(line):
     tasks = line.join(), line.join()
     same("the conflict", line.call(f"conflict {tasks[0]} {tasks[1]}").split(" -> ")[1], "done")
     return tasks
+
+
+def await_taken(line, request):
+    """What a request is answered once the log takes it, without its number and place and reply."""
+    return await_that(lambda: None if "fault log" in (found := line.ask(request)) else found, request).split(" ", 2)[2].split(" -> ")[0]
 
 
 def eat(line, task):

@@ -14,8 +14,6 @@ import socket
 import threading
 import time
 
-# A node that has no answer for so long may be cut off: the same is asked of the next one.
-ANSWER_SECONDS = 30
 # How long it may take to give up a wait.
 GIVE_UP_SECONDS = 30
 PAUSE_SECONDS = 0.05
@@ -48,6 +46,9 @@ class Client:
     is set once the client knows that it is dead.
     """
 
+    # A node that has no answer for so long may be cut off: the same is asked of the next one.
+    answer_seconds = 30
+
     def __init__(self, nodes):
         self.nodes, self.secret = nodes, secrets.token_urlsafe(24)
         self.caller, self.number, self.lease = None, 0, None
@@ -73,7 +74,7 @@ class Client:
             return
         try:
             self.line = socket.socket(socket.AF_UNIX)
-            self.line.settimeout(ANSWER_SECONDS)
+            self.line.settimeout(self.answer_seconds)
             self.line.connect(self.nodes[self.at])
             self.file = self.line.makefile("rb")
             self.introduce()
@@ -142,7 +143,7 @@ class Client:
         with self.lock, contextlib.suppress(OSError, Gone, Faulty):
             if self.caller is not None:
                 self.connect()
-                self.line.settimeout(ANSWER_SECONDS)
+                self.line.settimeout(self.answer_seconds)
                 self.line.sendall(b"end\n")
                 self.hear("ended")
         self.hang_up()
@@ -168,7 +169,7 @@ class Client:
                         self.hang_up()
                         self.at, self.wants_home = 0, False
                     self.connect()
-                    self.line.settimeout(min(max(end - time.monotonic(), PAUSE_SECONDS), ANSWER_SECONDS))
+                    self.line.settimeout(min(max(end - time.monotonic(), PAUSE_SECONDS), self.answer_seconds))
                     self.line.sendall(f"{self.caller} {number}{call}\n".encode())
                 return self.hear(number)
             except OSError as failure:

@@ -1,6 +1,6 @@
 """What the tests of the nodes work with: members of etcd, nodes, and connections by lines. Standard library only.
 
-All of it listens at this machine's loopback and at Unix sockets alone, and ends with who started it.
+All of it listens at this machine's loopback, at addresses of hosts.py and at Unix sockets alone, and ends with who started it.
 """
 import contextlib
 import json
@@ -40,14 +40,14 @@ def await_that(holds, what, seconds=START_SECONDS):
     return found
 
 
-def free_ports(count):
-    """So many ports of the loopback that nobody listens at."""
+def free_addresses(count):
+    """So many addresses of the loopback where nobody listens."""
     with contextlib.ExitStack() as kept:
         found = []
         for _ in range(count):
             door = kept.enter_context(socket.socket())
             door.bind(("127.0.0.1", 0))
-            found.append(door.getsockname()[1])
+            found.append(f"127.0.0.1:{door.getsockname()[1]}")
         return found
 
 
@@ -58,15 +58,18 @@ def contents(path):
 
 
 class Member:
-    """A member of etcd, by its number. Each has two of the ports: for clients and for the other members."""
+    """A member of etcd, by its number. Each listens at two of the addresses: for clients and for the other members.
 
-    def __init__(self, folder, number, ports, *words):
-        self.path, self.number, self.ports, self.words = folder, number, ports, words
-        self.count, self.process = len(ports) // 2, None
+    `host` begins the commands that run at its host. There are none if this machine is its host.
+    """
+
+    def __init__(self, folder, number, addresses, *words, host=()):
+        self.path, self.number, self.addresses, self.words, self.host = folder, number, addresses, words, host
+        self.count, self.process = len(addresses) // 2, None
 
     def url(self, number, kind=0):
         """Where a member listens, for clients or for the other members."""
-        return f"http://127.0.0.1:{self.ports[2 * number + kind]}"
+        return f"http://{self.addresses[2 * number + kind]}"
 
     def start(self, is_new=True):
         """The member runs."""
@@ -77,7 +80,7 @@ class Member:
         words += ["--listen-peer-urls", peers, "--initial-advertise-peer-urls", peers]
         words += ["--initial-cluster-state", "new" if is_new else "existing", "--initial-cluster-token", "dine", *self.words]
         with open(os.path.join(self.path, "etcd.log"), "ab") as log:
-            self.process = subprocess.Popen(["etcd", *words], stdout=log, stderr=log, cwd=self.path)
+            self.process = subprocess.Popen([*self.host, "etcd", *words], stdout=log, stderr=log, cwd=self.path)
 
     def post(self, path, body):
         """What the member answers, or None."""
@@ -109,10 +112,10 @@ class Member:
 
 
 class Node:
-    """A node, and its files. `words` are of the command line."""
+    """A node, and its files. `words` are of the command line, and `host` is as with members."""
 
-    def __init__(self, program, folder, etcd, *words, python=sys.executable):
-        self.command = [python, os.path.join(HERE, "node.py"), "--program", program, "--etcd", etcd, *words]
+    def __init__(self, program, folder, etcd, *words, python=sys.executable, host=()):
+        self.command = [*host, python, os.path.join(HERE, "node.py"), "--program", program, "--etcd", etcd, *words]
         self.socket, self.journal = os.path.join(folder, "socket"), os.path.join(folder, "journal")
         self.checkpoint, self.error = self.journal + ".checkpoint", os.path.join(folder, "error")
         self.process = None

@@ -10,7 +10,7 @@ import subprocess
 import sys
 import time
 
-from bench import LONG_LEASE, SHORT_LEASE, SLACK, Skipped, eat, two_in_conflict
+from bench import LONG_LEASE, SHORT_LEASE, SLACK, eat, two_in_conflict
 from client import Client, Faulty, Gone, Unreachable
 from cluster import HERE, PROMPT, Failed, await_that, contents, same
 
@@ -435,8 +435,6 @@ OWN = os.path.join(HERE, "README.md")
 
 def shown(first, page):
     """The block of a page that begins so."""
-    if not os.path.exists(page):
-        raise Skipped(f"{page} is not here")
     blocks = re.findall(r"(?:^    .*\n|^\n(?=    ))+", contents(page).decode(), re.MULTILINE)
     found = [block for block in blocks if block.lstrip("\n").startswith("    " + first)]
     same(f"how many blocks of {page} begin with {first!r}", len(found), 1)

@@ -6,13 +6,16 @@ import random
 import shutil
 import signal
 import subprocess
+import sys
 import time
 
-from bench import SHORT_LEASE, SLACK, Skipped, eat, ends_in_words, own_etcd, terminate
+from bench import SHORT_LEASE, SLACK, await_taken, eat, ends_in_words, own_etcd, terminate
 from cluster import Failed, Line, await_that, contents, same
 from etcd import Full, Log
 
 PATIENCE = 4
+# Other versions of Python than the test's own.
+PYTHONS = ("python3.9", "python3.10", "python3.11", "python3.12", "python3.13", "python3.14")
 # A node looks once in so many seconds for requests that the log didn't take.
 LOOK = 1.5
 
@@ -106,11 +109,6 @@ def a_log_out_of_reach_is_told(bench):
         said = own.node("--patience", "1", is_started=False).refuses()
         same("what a node says that finds no etcd", "no member answered" in said and "Traceback" not in said, True)
         return f"{entries} entries"
-
-
-def await_taken(line, request):
-    """What a request is answered once the log takes it, without its number and place and reply."""
-    return await_that(lambda: None if "fault log" in (found := line.ask(request)) else found, request).split(" ", 2)[2].split(" -> ")[0]
 
 
 def a_member_that_dies_is_replaced(bench):
@@ -298,24 +296,24 @@ def wrong_options_are_told(bench):
         same(f"what it says with {words}: {said}", text in said and "Traceback" not in said, True)
 
 
-def other_pythons(bench):
-    """A node runs by other versions of Python, and ends without a word."""
-    found = []
-    for version in ("3.9", "3.10", "3.12", "3.13"):
-        python = shutil.which(f"python{version}")
-        if python and subprocess.run([python, "--version"], capture_output=True, check=False).returncode == 0:
-            node = bench.node(python=python)
-            line = bench.line(node)
-            task = line.join()
-            line.call(f"hungry {task}")
-            same("an await", line.call(f"await {task}").split(" -> ")[1], "done")
-            same("an end", line.ask("end"), "ended")
-            terminate(node)
-            node.start()
-            found.append(version)
-    if not found:
-        raise Skipped("there is no other Python here")
-    return f"{', '.join(found)}, {bench.agree()} entries"
+def starts(python):
+    """Whether this Python is here and starts."""
+    return shutil.which(python) and subprocess.run([python, "--version"], capture_output=True, check=False).returncode == 0
+
+
+def each_python(bench):
+    """A node runs by the Python of this test and by each other version that is here, and ends without a word."""
+    pythons = [sys.executable, *filter(starts, PYTHONS)]
+    for python in pythons:
+        node = bench.node(python=python)
+        line = bench.line(node)
+        task = line.join()
+        line.call(f"hungry {task}")
+        same("an await", line.call(f"await {task}").split(" -> ")[1], "done")
+        same("an end", line.ask("end"), "ended")
+        terminate(node)
+        node.start()
+    return f"{', '.join(map(os.path.basename, pythons))}, {bench.agree()} entries"
 
 
 TESTS = (
@@ -329,5 +327,5 @@ TESTS = (
     a_log_that_was_reset_is_told,
     a_log_from_a_backup_is_told,
     wrong_options_are_told,
-    other_pythons,
+    each_python,
 )

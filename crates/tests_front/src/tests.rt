@@ -3,6 +3,7 @@
 mod audited;
 mod front;
 mod fronts;
+mod order;
 mod same;
 mod uses;
 mod visit;

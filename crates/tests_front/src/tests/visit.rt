@@ -7,6 +7,7 @@ use crate::tests::front::{Case, settles};
 use crate::tests::fronts::stops::gives_and_stops;
 use crate::tests::fronts::wakes::{Waits, ends_all};
 use crate::tests::fronts::{Play, plays};
+use crate::tests::order::keeps_order;
 use dine_front::{Front, LEDGER_PARTS, Naming, OpenFault, Opened, Pass};
 use std::marker::Brand;
 use std::process::Abort;
@@ -22,6 +23,7 @@ pub(crate) enum Visit<'a> {
     Play(Play),
     Waits(&'a Waits),
     TurnAndStop,
+    Order,
 }
 
 // Does it, and closes the front.
@@ -40,6 +42,7 @@ fn visits<J: Naming + Send + Sync>(
         Visit::Play(play) => plays(rt, front, passes, play),
         Visit::Waits(waits) => ends_all(rt, front, passes, waits),
         Visit::TurnAndStop => gives_and_stops(rt, front, passes),
+        Visit::Order => keeps_order(rt, front, passes),
     }
 }
 

@@ -1,0 +1,175 @@
+"""Tests of three hosts, each with a member of etcd, a node and clients: a link is cut, a member killed, a disk copied back.
+
+Behind each of these the journals are equal and legal, and each client's answers are its entries in them, each once and in order.
+Standard library only.
+"""
+import contextlib
+import os
+import shutil
+
+from bench import Bench, await_taken, members_of
+from client import Client
+from cluster import Line, await_that, contents, same
+from diners import Diners
+from hosts import hosts_of
+
+# So many meals are eaten before and behind each act, and so many by one client at most.
+HOSTS, CLIENTS, MEALS, MOST = 3, 6, 60, 100_000
+# How long so many meals take at most.
+SECONDS = 60
+
+
+class Noting(Client):
+    """A client that keeps what it was answered. It soon asks the next node where one has no answer."""
+
+    answer_seconds = 3
+
+    def __init__(self, nodes):
+        super().__init__(nodes)
+        self.answers = []
+
+    def answer_to(self, number, call, seconds):
+        answer = super().answer_to(number, call, seconds)
+        self.answers.append((number, call, answer))
+        return answer
+
+
+class Stand:
+    """Three hosts with their members and nodes, and clients that eat."""
+
+    def __init__(self, bench, hosts):
+        self.bench, self.hosts, self.members = bench, hosts, bench.members
+        self.nodes = [bench.node(beside=at) for at in range(HOSTS)]
+        self.diners = Diners(self.nodes, CLIENTS, Noting)
+
+    def leader(self):
+        """The number of the host whose member leads."""
+        return await_that(lambda: [at for at, member in enumerate(self.members) if member.leads()], "a member leads")[0]
+
+    def eat(self, *acts):
+        """The acts are done one after the other, while all clients eat."""
+        diners = self.diners
+        diners.start(MOST)
+        try:
+            for act in (*acts, None):
+                diners.await_meals(diners.table.meals + MEALS, SECONDS)
+                if act:
+                    act()
+        finally:
+            diners.ends.set()
+        for thread in diners.threads:
+            thread.join(SECONDS)
+            same("a client eats still", thread.is_alive(), False)
+        diners.come_home()
+
+    def holds(self):
+        """The journals are equal and legal, and say what the clients were answered, and nothing else of them."""
+        entries = self.bench.agree()
+        lines = contents(self.nodes[0].journal).decode().splitlines()
+        for client in self.diners.clients:
+            answers = [answer.split(" ", 1) for _, _, answer in client.answers]
+            same("what was answered, at its places", [lines[int(place)] for place, _ in answers], [entry for _, entry in answers])
+            own = [line for line in lines if line.startswith(f"{client.caller} ")]
+            same("the entries of a client", own, [entry for _, entry in answers])
+        self.ask_again()
+        self.diners.table.is_kept()
+        return entries
+
+    def ask_again(self):
+        """Each client's last request comes again at each node, and has the same answer."""
+        for client in self.diners.clients:
+            number, call, answer = client.answers[-1]
+            for node in self.nodes:
+                line = Line(node, client.secret, client.caller)
+                same("what comes again", line.ask(f"{client.caller} {number}{call}"), number + answer)
+                line.close()
+
+
+@contextlib.contextmanager
+def stand_of(bench):
+    """Three hosts, on which clients have begun to eat."""
+    with hosts_of(HOSTS) as hosts, members_of(bench.folder, HOSTS, hosts=hosts) as members:
+        with Bench(bench.program, members, bench.folder, bench.log) as own:
+            stand = Stand(own, hosts)
+            try:
+                yield stand
+            finally:
+                for client in stand.diners.clients:
+                    client.closed.set()
+                    client.hang_up()
+
+
+def a_link_is_cut_and_mended(bench):
+    """While a host is cut off, whose member leads or follows, its node answers nothing, and the others go on."""
+    with stand_of(bench) as stand:
+        for step in (0, 1):
+            at = (stand.leader() + step) % HOSTS
+            line = stand.bench.line(stand.nodes[at])
+            line.join()
+
+            def cut(line=line, at=at):
+                stand.hosts[at].cut()
+                same("a request at the node that is cut off", line.ask(f"{line.passed} 2 join"), "2 ! fault log")
+
+            stand.eat(cut, stand.hosts[at].mend)
+            same("the same request", await_taken(line, f"{line.passed} 2 join"), f"{line.passed} join")
+            entries = stand.holds()
+            journal = contents(stand.nodes[at].journal).decode()
+            same("how often it was carried out, with the one before", journal.count(f"\n{line.passed} join "), 2)
+        return f"{stand.diners.table.meals} meals, {entries} entries"
+
+
+def a_member_is_killed_and_comes_back(bench):
+    """A member of etcd that leads or follows is killed, alone or with the node beside it, which else goes on, and comes back."""
+    with stand_of(bench) as stand:
+        for step, has_node in ((0, False), (1, False), (0, True), (1, True)):
+            at = (stand.leader() + step) % HOSTS
+            member, node = stand.members[at], stand.nodes[at]
+            line = stand.bench.line(node)
+
+            def kill(member=member, node=node, line=line, has_node=has_node):
+                member.kill()
+                if has_node:
+                    node.kill()
+                else:
+                    same("a request at the node", await_taken(line, f"{line.passed} 1 join"), f"{line.passed} join")
+
+            def come_back(member=member, node=node, has_node=has_node):
+                member.start(is_new=False)
+                if has_node:
+                    same("the node begins by", node.start().rsplit("by ", 1)[1], "--resume")
+
+            stand.eat(kill, come_back)
+            entries = stand.holds()
+        return f"{stand.diners.table.meals} meals, {entries} entries"
+
+
+def a_disk_is_copied_back(bench):
+    """A node whose files are copied back to an older state, all of one moment or not, has the others' journal again."""
+    with stand_of(bench) as stand:
+        for at, files, begins_by in ((0, ("checkpoint", "journal"), "--resume"), (1, ("journal", "checkpoint"), "the whole log")):
+            node = stand.nodes[at]
+            await_that(lambda node=node: os.path.exists(node.checkpoint), "a checkpoint")
+
+            def copy(name, node=node):
+                shutil.copyfile(getattr(node, name), getattr(node, name) + ".copy")
+
+            def copy_back(node=node, files=files, begins_by=begins_by):
+                node.kill()
+                for name in files:
+                    os.replace(getattr(node, name) + ".copy", getattr(node, name))
+                same("the node begins by", node.start().rsplit("by ", 1)[1], begins_by)
+
+            # (while it runs, and the second only once the node has a checkpoint of more meals)
+            stand.eat(lambda copy=copy, files=files: copy(files[0]))
+            copy(files[1])
+            stand.eat(copy_back)
+            entries = stand.holds()
+        return f"{stand.diners.table.meals} meals, {entries} entries"
+
+
+TESTS = (
+    a_link_is_cut_and_mended,
+    a_member_is_killed_and_comes_back,
+    a_disk_is_copied_back,
+)
