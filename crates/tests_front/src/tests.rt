@@ -2,7 +2,8 @@
 
 mod audited;
 mod front;
-mod fronts;
 mod same;
+mod threads;
 mod uses;
 mod visit;
+mod wakes;

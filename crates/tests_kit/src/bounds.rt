@@ -5,6 +5,11 @@ use std::process::Abort;
 use std::sync::Wait;
 use std::thread::Threads;
 
+/// What a test is handed that starts no thread: it gives memory and aborts.
+pub trait Host: AllocGlobal + Abort {}
+
+impl<R: AllocGlobal + Abort> Host for R {}
+
 /// What a test is handed: it gives memory, starts threads, waits and aborts.
 pub trait Machine: AllocGlobal + Abort + Threads + Wait + Sync {}
 

@@ -1,6 +1,0 @@
-use Rattle.std.proofs.Common.{◌≤◌}
-use Rattle.tests_bars.proofs.tests.rich.bars.Given as goal
-
--- no more were counted than were looked at
-abbrev pub invariant-loop-mark : goal.invariant-loop-mark
-invariant-loop-mark l = l.bars ≤ l.mark-index
