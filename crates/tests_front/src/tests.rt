@@ -2,8 +2,9 @@
 
 mod audited;
 mod front;
-mod fronts;
 mod order;
 mod same;
+mod threads;
 mod uses;
 mod visit;
+mod wakes;

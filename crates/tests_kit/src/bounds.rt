@@ -6,6 +6,11 @@ use std::sync::Wait;
 use std::thread::Threads;
 use std::time::Clock;
 
+/// What a test is handed that starts no thread: it gives memory and aborts.
+pub trait Host: AllocGlobal + Abort {}
+
+impl<R: AllocGlobal + Abort> Host for R {}
+
 /// What a test is handed: it gives memory, starts threads, waits, tells the time and aborts.
 pub trait Machine: AllocGlobal + Abort + Threads + Wait + Clock + Sync {}
 

@@ -5,7 +5,7 @@ use crate::tests::same::same;
 use crate::tests::visit::{Visit, from, visit_a_front};
 use dine_front::{Front, Naming, Pass, Verdict};
 use dine_journal::Journal;
-use dine_words::{Call, Reply, State, Task};
+use dine_words::{Call, Entry, Reply, State, Task};
 use std::sync::Barrier;
 use std::thread::{map_vec, yield_now};
 use std::time::Instant;
@@ -148,8 +148,9 @@ fn takes_part<J: Naming>(
         state: u64::from(pass.number()),
     };
     if draw.state == 0 {
-        for (call, _) in RING {
-            calls(rt, front, &mut pass, &mut notes, call);
+        for text in RING.split("; ") {
+            let entry = Entry::read(text).expect(rt, "an entry");
+            calls(rt, front, &mut pass, &mut notes, entry.call);
         }
     }
     meeting.wait(rt);

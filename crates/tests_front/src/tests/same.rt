@@ -8,3 +8,8 @@ use tests_kit::Compared;
 pub fn same<T: Compared>(rt: &impl Abort, found: T, wanted: T) {
     assert_eq!(rt; found, wanted);
 }
+
+/// Both are equal in what has this name.
+pub fn same_in<T: Compared>(rt: &impl Abort, name: &str, found: T, wanted: T) {
+    assert_eq!(rt; found, wanted, "{name}");
+}

@@ -6,9 +6,8 @@ use dine_front::Verdict;
 use dine_replay::Checked;
 use dine_uses::{Broker, Fault, Recorded, Scheduler, eat_in_turns, keep_record};
 use dine_words::{Call, Limits, Refusal, State, Task};
-use std::alloc::Global;
 use std::process::Abort;
-use tests_kit::{A, B};
+use tests_kit::{A, B, Host};
 
 const CALLS: [Call; 6] = [
     Call::Join,
@@ -28,16 +27,9 @@ fn ticks(rt: &impl Abort, scheduler: &mut Scheduler, running: &[Task]) {
     same(rt, scheduler.running(), running);
 }
 
-fn scheduler(rt: &impl Abort, alloc: Global) -> Scheduler {
-    Scheduler::new(alloc, limits(rt, 8, 8))
-        .ok()
-        .expect(rt, "memory")
-}
-
-fn broker(rt: &impl Abort, alloc: Global, tasks: u32, conflicts: u32) -> Broker {
-    Broker::new(alloc, limits(rt, tasks, conflicts))
-        .ok()
-        .expect(rt, "memory")
+fn broker(rt: &impl Host, tasks: u32, conflicts: u32) -> Broker {
+    let broker = Broker::new(rt.alloc(), limits(rt, tasks, conflicts));
+    broker.ok().expect(rt, "memory")
 }
 
 fn joins(rt: &impl Abort, scheduler: &mut Scheduler) -> Task {
@@ -62,8 +54,8 @@ fn starts_all(rt: &impl Abort, scheduler: &mut Scheduler) {
 
 #[test]
 fn a_tick_starts_all_that_may_start(rt: HostRuntime) {
-    let mut scheduler = scheduler(&rt, rt.alloc());
-    starts_all(&rt, &mut scheduler);
+    let scheduler = Scheduler::new(rt.alloc(), limits(&rt, 8, 8));
+    starts_all(&rt, &mut scheduler.ok().expect(&rt, "memory"));
 }
 
 fn asks(rt: &impl Abort, broker: &mut Broker, rivals: &[Task]) -> Task {
@@ -89,8 +81,7 @@ fn gives_in_turn(rt: &impl Abort, broker: &mut Broker) {
 
 #[test]
 fn a_client_gets_all_it_asked_for_or_waits(rt: HostRuntime) {
-    let mut broker = broker(&rt, rt.alloc(), 8, 8);
-    gives_in_turn(&rt, &mut broker);
+    gives_in_turn(&rt, &mut broker(&rt, 8, 8));
 }
 
 // A request beside these rivals is refused.
@@ -113,8 +104,7 @@ fn refuses_and_gives(rt: &impl Abort, broker: &mut Broker) {
 
 #[test]
 fn a_refused_request_leaves_nothing_behind(rt: HostRuntime) {
-    let mut broker = broker(&rt, rt.alloc(), 3, 1);
-    refuses_and_gives(&rt, &mut broker);
+    refuses_and_gives(&rt, &mut broker(&rt, 3, 1));
 }
 
 #[test]

@@ -2,12 +2,9 @@
 
 ghost use Rattle.dine_front.specs.Opening.{CanOpen};
 
-use crate::tests::front::refused_memory::lives;
 use crate::tests::front::{Case, settles};
-use crate::tests::fronts::stops::gives_and_stops;
-use crate::tests::fronts::wakes::{Waits, ends_all};
-use crate::tests::fronts::{Play, plays};
 use crate::tests::order::keeps_order;
+use crate::tests::wakes::{Waits, ends_all, gives_and_stops};
 use dine_front::{Front, LEDGER_PARTS, Naming, OpenFault, Opened, Pass};
 use std::marker::Brand;
 use std::process::Abort;
@@ -19,8 +16,6 @@ use tests_kit::{LIMITS, Machine};
 pub(crate) enum Visit<'a> {
     Nothing,
     Case(&'a Case),
-    Life,
-    Play(Play),
     Waits(&'a Waits),
     TurnAndStop,
     Order,
@@ -38,8 +33,6 @@ fn visits<J: Naming + Send + Sync>(
             front.close(rt, passes);
         }
         Visit::Case(case) => settles(rt, front, passes, case),
-        Visit::Life => lives(rt, front, passes),
-        Visit::Play(play) => plays(rt, front, passes, play),
         Visit::Waits(waits) => ends_all(rt, front, passes, waits),
         Visit::TurnAndStop => gives_and_stops(rt, front, passes),
         Visit::Order => keeps_order(rt, front, passes),

@@ -5,9 +5,3 @@
 mod calls;
 mod fronts;
 mod histories;
-
-use dine_words::Task;
-use tests_kit::{A, D};
-
-// The neighbours of the last of the five.
-const BESIDE_E: [Task; 2] = [D, A];

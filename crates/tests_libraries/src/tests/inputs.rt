@@ -1,10 +1,10 @@
-//! Inputs that are read a piece at a time.
+//! Inputs that are read a piece at a time, and lines of streams that come in small pieces, or that fail.
 
 use crate::tests::same::{same, same_at};
-use dine_streams::InputBuffer;
-use std::alloc::AllocError;
+use dine_streams::{InputBuffer, Line, LineBuffer};
+use std::alloc::{AllocError, Global};
 use std::process::Abort;
-use tests_kit::FailingReader;
+use tests_kit::{FailingReader, Host};
 
 const TEXT: &[u8] = b"join a\nstate a\nnext";
 
@@ -78,4 +78,67 @@ fn a_failed_read_is_told(rt: HostRuntime) -> Result<(), AllocError> {
     same(&rt, (input.heard(), reader.failures), (5, 1));
     same(&rt, input.text(), b"join ".as_slice());
     Ok(())
+}
+
+// More reads than any stream here takes.
+const MANY: u32 = 1_000_000;
+
+// Puts each line behind the others, with `|` after it.
+fn push_lines(seen: &mut Vec<u8>, text: &[u8]) -> Result<(), AllocError> {
+    let mut rest = text;
+    for _ in 0..text.len() {
+        if let Some((Line::Whole(bytes), after)) = Line::cut(rest) {
+            seen.extend_from_slice(bytes)?;
+            seen.push(b'|')?;
+            rest = after;
+        }
+    }
+    Ok(())
+}
+
+// Hears a stream to its end, or to the read that fails, and keeps its lines. Tells whether one had begun after them.
+fn hear(alloc: Global, reader: &mut FailingReader, seen: &mut Vec<u8>) -> Result<bool, AllocError> {
+    let mut buffer = LineBuffer::new(alloc)?;
+    for _ in 0..MANY {
+        match buffer.hear(reader) {
+            Ok(true) => push_lines(seen, buffer.lines())?,
+            Ok(false) | Err(_) => break,
+        }
+    }
+    Ok(buffer.has_begun())
+}
+
+// A text, its lines, and whether the last is torn.
+const TEXTS: [(&[u8], &[u8], bool); 8] = [
+    (b"", b"", false),
+    (b"\n", b"|", false),
+    (b"a", b"", true),
+    (b"a\n", b"a|", false),
+    (b"a\nb\n", b"a|b|", false),
+    (b"a\n\n\nb", b"a|||", true),
+    (b"join a\r\nnext\n", b"join a\r|next|", false),
+    (b"5 finish 1.12\n5 finish 1.1", b"5 finish 1.12|", true),
+];
+
+#[test]
+fn lines_are_the_same_however_they_come(rt: HostRuntime) {
+    for (text, lines, is_torn) in &TEXTS {
+        for most in [1, 2, 3, 1000] {
+            let mut seen = Vec::new(rt.alloc());
+            let mut reader = FailingReader::new(text, most, MANY);
+            let has_begun = hear(rt.alloc(), &mut reader, &mut seen);
+            same_at(&rt, most, has_begun, Ok(*is_torn));
+            same_at(&rt, most, seen.as_slice(), *lines);
+        }
+    }
+}
+
+// What came before a read that fails is told, and nothing of it twice.
+#[test]
+fn a_failed_read_forgets_nothing_that_was_heard(rt: HostRuntime) {
+    let mut reader = FailingReader::new(b"a\nbc\nd\n", 4, 1);
+    let mut seen = Vec::new(rt.alloc());
+    let has_begun = hear(rt.alloc(), &mut reader, &mut seen);
+    same(&rt, seen.as_slice(), b"a|".as_slice());
+    same(&rt, (has_begun, reader.failures), (Ok(true), 1));
 }

@@ -4,17 +4,19 @@
 use crate::tests::same::same_at;
 use dine_arbiter::Arbiter;
 use dine_journal::PlainTable;
-use dine_words::{Call, Limits, Refusal, Reply, State, Task};
+use dine_words::State::{Eating, Hungry, Thinking};
+use dine_words::{Call, Limits, Refusal, Reply, Task};
 use std::alloc::Global;
 use std::process::Abort;
-use tests_kit::Draw;
+use tests_kit::{Draw, Host, draw_call};
 
 const CALLS: u32 = 4000;
 
 // So few that both limits are reached over and over.
-const TASKS: u32 = 6;
-
-const CONFLICTS: u32 = 8;
+const LIMITS: Limits = Limits {
+    tasks: 6,
+    conflicts: 8,
+};
 
 // Calls name one of so many tasks that joined last: more than may be present, so some of them have left.
 const NAMED: usize = 9;
@@ -29,10 +31,8 @@ struct Meals {
 
 impl Meals {
     fn stamp(&self, task: Task) -> Option<u64> {
-        self.stamps
-            .iter()
-            .find(|meal| meal.0 == task)
-            .map(|meal| meal.1)
+        let mut meals = self.stamps.iter();
+        meals.find(|meal| meal.0 == task).map(|meal| meal.1)
     }
 
     // A task ate, or joined, at this moment.
@@ -51,70 +51,14 @@ impl Meals {
     }
 }
 
-fn draw_call(draw: &mut Draw, meals: &Meals) -> Call {
-    let first = meals.draw(draw);
-    let second = meals.draw(draw);
-    match draw.below(22) {
-        0..=1 => Call::Join,
-        2 => Call::Leave(first),
-        3..=6 => Call::Conflict(first, second),
-        7 => Call::Separate(first, second),
-        8..=11 => Call::Hungry(first),
-        12..=16 => Call::Begin(first),
-        17..=19 => Call::Finish(first),
-        _ => Call::Withdraw(first),
-    }
-}
-
 // Whether `first` comes before `second`: the other eats, or neither does and its last meal is the earlier one.
 fn is_sooner(table: &PlainTable, meals: &Meals, first: Task, second: Task) -> bool {
-    let first_eats = table.state(first) == Some(State::Eating);
-    let second_eats = table.state(second) == Some(State::Eating);
+    let first_eats = table.state(first) == Some(Eating);
+    let second_eats = table.state(second) == Some(Eating);
     match (first_eats, second_eats) {
         (false, true) => true,
         (false, false) => meals.stamp(first) < meals.stamp(second),
         _ => false,
-    }
-}
-
-// The messages between a task that grows hungry and its neighbour.
-fn messages_of_hunger(table: &PlainTable, meals: &Meals, task: Task, neighbour: Task) -> u32 {
-    match (
-        table.state(neighbour),
-        is_sooner(table, meals, task, neighbour),
-    ) {
-        (Some(State::Eating), _) => 1,
-        (Some(State::Hungry), true) => 3,
-        (Some(State::Hungry), false) => 1,
-        (_, true) => 2,
-        (_, false) => 0,
-    }
-}
-
-// The messages between a task that withdraws and its neighbour.
-fn messages_of_withdrawal(table: &PlainTable, meals: &Meals, task: Task, neighbour: Task) -> u32 {
-    match (
-        table.state(neighbour),
-        is_sooner(table, meals, task, neighbour),
-    ) {
-        (Some(State::Eating | State::Hungry), _) => 1,
-        (_, true) => 2,
-        (_, false) => 0,
-    }
-}
-
-// The messages over a conflict that is declared.
-fn messages_of_conflict(table: &PlainTable, meals: &Meals, first: Task, second: Task) -> u32 {
-    let (sooner, later) = if is_sooner(table, meals, first, second) {
-        (first, second)
-    } else {
-        (second, first)
-    };
-    match (table.state(sooner), table.state(later)) {
-        (Some(State::Hungry), Some(State::Eating)) => 1,
-        (Some(State::Hungry), Some(State::Thinking)) => 2,
-        (Some(State::Hungry), _) => 3,
-        _ => 0,
     }
 }
 
@@ -126,10 +70,29 @@ fn messages_between(
     task: Task,
     neighbour: Task,
 ) -> u32 {
-    match call {
-        Call::Hungry(_) => messages_of_hunger(table, meals, task, neighbour),
-        Call::Withdraw(_) => messages_of_withdrawal(table, meals, task, neighbour),
-        _ => u32::from(table.state(neighbour) == Some(State::Hungry)),
+    let is_sooner = is_sooner(table, meals, task, neighbour);
+    match (call, table.state(neighbour), is_sooner) {
+        (Call::Finish(_), state, _) => u32::from(state == Some(Hungry)),
+        (_, Some(Eating), _) => 1,
+        (Call::Hungry(_), Some(Hungry), true) => 3,
+        (_, Some(Hungry), _) => 1,
+        (_, _, true) => 2,
+        (_, _, false) => 0,
+    }
+}
+
+// The messages over a conflict that is declared.
+fn messages_of_conflict(table: &PlainTable, meals: &Meals, first: Task, second: Task) -> u32 {
+    let (sooner, later) = if is_sooner(table, meals, first, second) {
+        (first, second)
+    } else {
+        (second, first)
+    };
+    match (table.state(sooner), table.state(later)) {
+        (Some(Hungry), Some(Eating)) => 1,
+        (Some(Hungry), Some(Thinking)) => 2,
+        (Some(Hungry), _) => 3,
+        _ => 0,
     }
 }
 
@@ -150,7 +113,7 @@ fn messages_of(alloc: Global, table: &PlainTable, meals: &Meals, call: Call) -> 
     Some(messages)
 }
 
-// Which of the ten kinds of reply it is.
+// Which of the kinds of reply it is.
 const fn kind(reply: Reply) -> usize {
     match reply {
         Reply::Joined(_) => 0,
@@ -175,25 +138,12 @@ struct Sides {
     meals: Meals,
 }
 
-impl Sides {
-    fn new(rt: &impl Abort, alloc: Global) -> Self {
-        let limits = Limits::new(TASKS, CONFLICTS).expect(rt, "the limits are in range");
-        Sides {
-            arbiter: Arbiter::new(alloc, limits).ok().expect(rt, "memory"),
-            table: PlainTable::new(alloc, limits),
-            meals: Meals {
-                stamps: Vec::new(alloc),
-            },
-        }
-    }
-}
-
 // The reply that the plain table is about to give, and the messages of the call.
-fn expected(alloc: Global, table: &PlainTable, meals: &Meals, call: Call) -> Option<(Reply, u32)> {
-    let reply = table.reply_to(call);
+fn expected(alloc: Global, sides: &Sides, call: Call) -> Option<(Reply, u32)> {
+    let reply = sides.table.reply_to(call);
     match reply {
         Reply::Refused(_) => Some((reply, 0)),
-        _ => Some((reply, messages_of(alloc, table, meals, call)?)),
+        _ => Some((reply, messages_of(alloc, &sides.table, &sides.meals, call)?)),
     }
 }
 
@@ -217,64 +167,55 @@ fn table_answers(rt: &impl Abort, table: &mut PlainTable, call: Call, wanted: Re
     same_at(rt, turn, table.apply(call), Ok(wanted));
 }
 
-// Notes a joining or the end of a meal, if this call with its reply is one.
-fn note(rt: &impl Abort, meals: &mut Meals, call: Call, reply: Reply, clock: u64) {
-    match (call, reply) {
+// Makes a call on both sides, notes a joining or the end of a meal, and says how both reply.
+fn make_call(rt: &impl Host, sides: &mut Sides, call: Call, turn: u32) -> Reply {
+    let clock = sides.table.clock();
+    same_at(rt, turn, sides.arbiter.clock(), clock);
+    let wanted = expected(rt.alloc(), sides, call).expect(rt, "memory");
+    arbiter_answers(rt, &mut sides.arbiter, call, wanted, turn);
+    table_answers(rt, &mut sides.table, call, wanted.0, turn);
+    match (call, wanted.0) {
         (_, Reply::Joined(task)) | (Call::Finish(task), Reply::Done) => {
-            meals.place(rt, task, clock);
+            sides.meals.place(rt, task, clock);
         }
         _ => {}
     }
-}
-
-// Makes a call on both sides, and says how both reply.
-fn make_call(rt: &impl Abort, alloc: Global, sides: &mut Sides, call: Call, turn: u32) -> Reply {
-    let clock = sides.table.clock();
-    same_at(rt, turn, sides.arbiter.clock(), clock);
-    let wanted = expected(alloc, &sides.table, &sides.meals, call);
-    let wanted = wanted.expect(rt, "memory");
-    arbiter_answers(rt, &mut sides.arbiter, call, wanted, turn);
-    table_answers(rt, &mut sides.table, call, wanted.0, turn);
-    note(rt, &mut sides.meals, call, wanted.0, clock);
     wanted.0
-}
-
-// Both sides tell the same of a task.
-fn check_task(rt: &impl Abort, sides: &Sides, task: Task, turn: u32) {
-    let (arbiter, table) = (&sides.arbiter, &sides.table);
-    same_at(rt, turn, arbiter.state(task), table.state(task));
-    same_at(rt, turn, arbiter.is_ready(task), table.is_ready(task));
 }
 
 // Both sides name the same task as the next one, and tell the same of the tasks that joined last.
 fn check_questions(rt: &impl Abort, sides: &Sides, turn: u32) {
-    let next = sides.arbiter.next_ready();
-    same_at(rt, turn, next, sides.table.next_ready());
-    for meal in sides.meals.stamps.iter().rev().take(NAMED) {
-        check_task(rt, sides, meal.0, turn);
+    let (arbiter, table) = (&sides.arbiter, &sides.table);
+    same_at(rt, turn, arbiter.next_ready(), table.next_ready());
+    for (task, _) in sides.meals.stamps.iter().rev().take(NAMED) {
+        same_at(rt, turn, arbiter.state(*task), table.state(*task));
+        same_at(rt, turn, arbiter.is_ready(*task), table.is_ready(*task));
     }
 }
 
-// Makes the drawn calls, and counts each kind of reply.
-fn make_calls(rt: &impl Abort, alloc: Global, sides: &mut Sides, counts: &mut [u32; 11]) {
+// Each kind of reply is given, so each is compared.
+#[test]
+fn the_arbiter_answers_drawn_calls_as_the_plain_table(rt: HostRuntime) {
+    let mut sides = Sides {
+        arbiter: Arbiter::new(rt.alloc(), LIMITS).ok().expect(&rt, "memory"),
+        table: PlainTable::new(rt.alloc(), LIMITS),
+        meals: Meals {
+            stamps: Vec::new(rt.alloc()),
+        },
+    };
     let mut draw = Draw { state: 1989 };
+    let mut counts: [u32; 11] = [0; 11];
     for turn in 0..CALLS {
-        let call = draw_call(&mut draw, &sides.meals);
-        let reply = make_call(rt, alloc, sides, call, turn);
-        check_questions(rt, sides, turn);
+        let first = sides.meals.draw(&mut draw);
+        let second = sides.meals.draw(&mut draw);
+        let call = draw_call(&mut draw, first, second);
+        let reply = make_call(&rt, &mut sides, call, turn);
+        check_questions(&rt, &sides, turn);
         if let Some(count) = counts.get_mut(kind(reply)) {
             *count = count.saturating_add(1);
         }
     }
-}
-
-#[test]
-fn the_arbiter_answers_drawn_calls_as_the_plain_table(rt: HostRuntime) {
-    let mut counts: [u32; 11] = [0; 11];
-    let mut sides = Sides::new(&rt, rt.alloc());
-    make_calls(&rt, rt.alloc(), &mut sides, &mut counts);
-    // each kind of reply was given, so each was compared
     for (kind, count) in counts.iter().enumerate() {
-        assert!(rt; *count >= 5, "kind {kind} of reply came {count} times");
+        assert!(&rt; *count >= 5, "kind {kind} of reply came {count} times");
     }
 }

@@ -9,7 +9,7 @@ pub fn same<T: Compared>(rt: &impl Abort, found: T, wanted: T) {
     assert_eq!(rt; found, wanted);
 }
 
-/// Both are equal: it is this that is compared, of this row of a table.
-pub fn same_at<T: Compared>(rt: &impl Abort, what: &str, place: usize, found: T, wanted: T) {
-    assert_eq!(rt; found, wanted, "{what} of row {place}");
+/// Both are equal in what has this name.
+pub fn same_in<T: Compared>(rt: &impl Abort, name: &str, found: T, wanted: T) {
+    assert_eq!(rt; found, wanted, "{name}");
 }

@@ -1,8 +1,7 @@
 //! Where workers begin: none before all have come, and then all at once.
 
-use crate::tests::gates::{dawdle, gated};
-use crate::tests::races::{TWO_FRIENDS, diners};
-use crate::tests::same::{same, same_at};
+use crate::tests::gates::{TWO_FRIENDS, dawdle, gated};
+use crate::tests::same::same;
 use dine_cli::Print;
 use dine_race::Gate;
 use std::sync::atomic::{AtomicBool, AtomicU32, Ordering};
@@ -17,16 +16,6 @@ struct LateComers {
     workers: u32,
     come: AtomicU32,
     is_early: AtomicBool,
-}
-
-impl LateComers {
-    fn new(workers: u32) -> Self {
-        LateComers {
-            workers,
-            come: AtomicU32::new(0),
-            is_early: AtomicBool::new(false),
-        }
-    }
 }
 
 impl Gate for LateComers {
@@ -64,26 +53,31 @@ fn changes_in(journal: &[u8]) -> usize {
 }
 
 // A race of late comers. No step is early, and it says how often the worker changes.
-fn changes_of(rt: &impl Machine, place: usize, workers: u32, scenario: &[u8]) -> usize {
-    let gate = LateComers::new(workers);
+fn changes_of(rt: &impl Machine, workers: u32, scenario: &[u8]) -> usize {
+    let gate = LateComers {
+        workers,
+        come: AtomicU32::new(0),
+        is_early: AtomicBool::new(false),
+    };
     let journal = gated(rt, scenario, &gate, Print::Journal);
-    let is_early = gate.is_early.load(Ordering::SeqCst);
-    same_at(rt, "an early step", place, is_early, false);
+    same(rt, gate.is_early.load(Ordering::SeqCst), false);
     changes_in(&journal)
 }
 
 // So often it is tried: with other programs on the processors the workers may still come one after the other.
 const TRIES: usize = 100;
 
-// In some race the worker changes so often. With one processor it may not. Workers that went on at once would come one
-// after the other.
-fn check_changes(rt: &impl Machine, workers: u32, scenario: &[u8], changes: usize) {
+// So often the worker changes in some race.
+const CHANGES: usize = 20;
+
+// With one processor it may not. Workers that went on at once would come one after the other.
+fn check_changes(rt: &impl Machine, workers: u32, scenario: &[u8]) {
     let is_alone = available_parallelism(rt).is_ok_and(|count| count.get() == 1);
     let tries = if is_alone { 1 } else { TRIES };
     let mut most = 0;
-    for place in 0..tries {
-        most = most.max(changes_of(rt, place, workers, scenario));
-        if most >= changes {
+    for _ in 0..tries {
+        most = most.max(changes_of(rt, workers, scenario));
+        if most >= CHANGES {
             return;
         }
     }
@@ -92,12 +86,17 @@ fn check_changes(rt: &impl Machine, workers: u32, scenario: &[u8], changes: usiz
 
 #[test]
 fn two_friends_eat_by_turns(rt: HostRuntime) {
-    check_changes(&rt, 2, TWO_FRIENDS, 20);
+    check_changes(&rt, 2, TWO_FRIENDS);
 }
+
+// Each of four round a table eats twenty times.
+const RING: &[u8] = b"setup = ['join a', 'join b', 'join c', 'join d', \
+'conflict a b', 'conflict b c', 'conflict c d', 'conflict d a']
+worker = [{ repeat = 20, steps = ['eat a'] }, { repeat = 20, steps = ['eat b'] }, \
+{ repeat = 20, steps = ['eat c'] }, { repeat = 20, steps = ['eat d'] }]
+";
 
 #[test]
 fn a_ring_eats_side_by_side(rt: HostRuntime) {
-    let scenario = diners(rt.alloc(), 4, true);
-    let scenario = scenario.ok().expect(&rt, "memory");
-    check_changes(&rt, 4, scenario.as_bytes(), 20);
+    check_changes(&rt, 4, RING);
 }

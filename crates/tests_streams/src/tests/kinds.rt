@@ -1,16 +1,19 @@
 //! Streams of std that fail at two calls, in each way that there is and at each of several sizes, and work at the others. A
 //! call of a marked stream is one call of the stream within: none is tried again, none is left out, and no failure is made
-//! up.
+//! up. An interruption is a failure like any other.
 
 ghost use Rattle.std.specs.Prelude.{◌≡◌, IfOk};
 
-use crate::tests::same::same_at;
+use crate::tests::engine::Engine;
+use crate::tests::same::{same, same_at};
+use dine_cli::{CliFault, Print};
 use dine_command_line::Noting;
 use dine_words::{Failed, Marked, Sink, Source};
 use std::alloc::{AllocError, Global};
 use std::cell::Cell;
 use std::io::{Error, ErrorKind, Read, Write};
 use std::process::Abort;
+use tests_kit::{FailingWriter, Machine};
 
 /// How a stream stops.
 #[derive(Clone, Copy)]
@@ -34,13 +37,21 @@ struct StopsTwice {
     calls: u32,
     // The number of the first call at which it stops, from 1. The other one is two calls behind.
     stop: u32,
-    // How it stops there.
     how: How,
     // The most bytes that a call moves.
     most: usize,
 }
 
 impl StopsTwice {
+    fn new(stop: u32, how: How, most: usize) -> Self {
+        StopsTwice {
+            calls: 0,
+            stop,
+            how,
+            most,
+        }
+    }
+
     // Whether this call is one at which it stops.
     fn stops(&mut self) -> bool {
         self.calls = self.calls.saturating_add(1);
@@ -81,53 +92,21 @@ impl Write for StopsTwice {
     }
 }
 
-const KINDS: [ErrorKind; 42] = [
-    ErrorKind::NotFound,
-    ErrorKind::PermissionDenied,
-    ErrorKind::ConnectionRefused,
-    ErrorKind::ConnectionReset,
-    ErrorKind::HostUnreachable,
-    ErrorKind::NetworkUnreachable,
-    ErrorKind::ConnectionAborted,
-    ErrorKind::NotConnected,
-    ErrorKind::AddrInUse,
-    ErrorKind::AddrNotAvailable,
-    ErrorKind::NetworkDown,
-    ErrorKind::BrokenPipe,
-    ErrorKind::AlreadyExists,
-    ErrorKind::WouldBlock,
-    ErrorKind::NotADirectory,
-    ErrorKind::IsADirectory,
-    ErrorKind::DirectoryNotEmpty,
-    ErrorKind::ReadOnlyFilesystem,
-    ErrorKind::FilesystemLoop,
-    ErrorKind::StaleNetworkFileHandle,
-    ErrorKind::InvalidInput,
+// The kinds that no error of the system has.
+const KINDS: [ErrorKind; 4] = [
     ErrorKind::InvalidData,
-    ErrorKind::TimedOut,
     ErrorKind::WriteZero,
-    ErrorKind::StorageFull,
-    ErrorKind::NotSeekable,
-    ErrorKind::QuotaExceeded,
-    ErrorKind::FileTooLarge,
-    ErrorKind::ResourceBusy,
-    ErrorKind::ExecutableFileBusy,
-    ErrorKind::Deadlock,
-    ErrorKind::CrossesDevices,
-    ErrorKind::TooManyLinks,
-    ErrorKind::InvalidFilename,
-    ErrorKind::ArgumentListTooLong,
-    ErrorKind::Interrupted,
-    ErrorKind::Unsupported,
     ErrorKind::UnexpectedEof,
-    ErrorKind::OutOfMemory,
-    ErrorKind::InProgress,
     ErrorKind::Other,
-    ErrorKind::Uncategorized,
 ];
 
 // The numbers of the system's errors end before this one.
 const NUMBERS: i32 = 134;
+
+// The kind of an error of the system.
+fn kind_of(number: i32) -> ErrorKind {
+    Error::from_raw_os_error(number).kind()
+}
 
 // How many bytes a call hands on. The last is more than a script writes at once: an input and a large write.
 const SIZES: [usize; 15] = [
@@ -142,107 +121,58 @@ const STOPS: [u32; 3] = [1, 2, 3];
 
 const CALLS: u32 = 4;
 
-// The most bytes that a call of a stream moves.
-const MOST: [usize; 2] = [1, ROOM];
-
-// Which calls are made.
-#[derive(Clone, Copy)]
-enum Side {
-    Reads,
-    Writes,
-}
-
-// Makes a call over so many bytes.
+// Reads or writes over so many bytes: what is answered, and whether the stream is marked then.
 fn moved(
     rt: &impl Abort,
     stream: &mut Marked<StopsTwice>,
-    side: Side,
+    is_read: bool,
     bytes: &mut [u8],
     size: usize,
-) -> Result<usize, Failed> {
-    let part = bytes.get_mut(..size).expect(rt, "so many bytes");
-    match side {
-        Side::Reads => Source::read(stream, part),
-        Side::Writes => Sink::write(stream, part),
-    }
-}
-
-// What a call answers, and whether it leaves a mark. Bytes of which none is written are as good as a failure.
-fn wanted(
-    side: Side,
-    how: How,
-    stops: bool,
-    size: usize,
-    most: usize,
 ) -> (Result<usize, Failed>, bool) {
-    if !stops {
-        return (Ok(size.min(most)), false);
-    }
-    match (how, side) {
-        (How::MovesNone, Side::Reads) => (Ok(0), false),
-        (How::MovesNone, Side::Writes) => (Ok(0), size > 0),
-        (How::Fails(_) | How::FailsBy(_), _) => (Err(Failed), true),
-    }
+    let part = bytes.get_mut(..size).expect(rt, "so many bytes");
+    let found = if is_read {
+        Source::read(stream, part)
+    } else {
+        Sink::write(stream, part)
+    };
+    (found, stream.is_marked())
 }
 
-// What is done with a stream: how it stops, at which call, over how many bytes, and how many a call moves at most.
-#[derive(Clone, Copy)]
-struct Case {
-    side: Side,
-    how: How,
-    stop: u32,
+// Makes some calls of a stream over so many bytes. Each is one call within, and the mark stays once it is there. Bytes of which
+// none is written are as good as a failure.
+fn check_calls(
+    rt: &impl Abort,
+    bytes: &mut [u8],
+    is_read: bool,
+    (stop, how, most): (u32, How, usize),
     size: usize,
-    most: usize,
-}
-
-// Makes some calls of a stream. Each is one call within, and the mark stays once it is there.
-fn check_case(rt: &impl Abort, bytes: &mut [u8], case: &Case) {
-    let Case {
-        side,
-        how,
-        stop,
-        size,
-        most,
-    } = *case;
-    let mut stream = Marked::new(StopsTwice {
-        calls: 0,
-        stop,
-        how,
-        most,
-    });
-    let mut is_marked = false;
+) {
+    let mut stream = Marked::new(StopsTwice::new(stop, how, most));
+    let mut is_marked = stream.is_marked();
+    same_at(rt, "the mark", size, is_marked, false);
     for call in 1..=CALLS {
-        let found = moved(rt, &mut stream, side, bytes, size);
-        let (answer, marks) = wanted(side, how, is_stop(call, stop), size, most);
+        let found = moved(rt, &mut stream, is_read, bytes, size);
+        let (answer, marks) = match how {
+            _ if !is_stop(call, stop) => (Ok(size.min(most)), false),
+            How::MovesNone => (Ok(0), !is_read && size > 0),
+            How::Fails(_) | How::FailsBy(_) => (Err(Failed), true),
+        };
         is_marked |= marks;
-        let found = (found, stream.is_marked());
         same_at(rt, "the call", size, found, (answer, is_marked));
     }
     same_at(rt, "the calls", size, stream.into_inner().calls, CALLS);
 }
 
-// Lets a stream stop at each of its calls.
-fn check_stops(rt: &impl Abort, bytes: &mut [u8], side: Side, how: How) {
+// Lets reads and writes stop in this way, at each of their calls.
+fn check_stops(rt: &impl Abort, bytes: &mut [u8], how: How) {
     for size in SIZES {
-        for most in MOST {
+        for most in [1, ROOM] {
             for stop in STOPS {
-                let case = Case {
-                    side,
-                    how,
-                    stop,
-                    size,
-                    most,
-                };
-                check_case(rt, bytes, &case);
+                check_calls(rt, bytes, true, (stop, how, most), size);
+                check_calls(rt, bytes, false, (stop, how, most), size);
             }
         }
     }
-}
-
-// Lets reads and writes stop in this way.
-fn check_sides(rt: &impl Abort, bytes: &mut [u8], how: How) {
-    check_stops(rt, bytes, Side::Reads, how);
-    check_stops(rt, bytes, Side::Writes, how);
 }
 
 fn room(alloc: Global) -> Result<Vec<u8>, AllocError> {
@@ -253,10 +183,11 @@ fn room(alloc: Global) -> Result<Vec<u8>, AllocError> {
 fn a_failure_of_any_kind_is_told_and_not_tried_again(rt: HostRuntime) -> Result<(), AllocError> {
     let mut bytes = room(rt.alloc())?;
     for kind in KINDS {
-        check_sides(&rt, &mut bytes, How::Fails(kind));
+        check_stops(&rt, &mut bytes, How::Fails(kind));
     }
     for number in 0..NUMBERS {
-        check_sides(&rt, &mut bytes, How::FailsBy(number));
+        check_stops(&rt, &mut bytes, How::Fails(kind_of(number)));
+        check_stops(&rt, &mut bytes, How::FailsBy(number));
     }
     Ok(())
 }
@@ -264,21 +195,15 @@ fn a_failure_of_any_kind_is_told_and_not_tried_again(rt: HostRuntime) -> Result<
 #[test]
 fn what_moves_no_byte_is_not_tried_again(rt: HostRuntime) -> Result<(), AllocError> {
     let mut bytes = room(rt.alloc())?;
-    check_sides(&rt, &mut bytes, How::MovesNone);
+    check_stops(&rt, &mut bytes, How::MovesNone);
     Ok(())
 }
 
 // Hands on bytes of each number, up to some, over a stream that never stops.
-fn check_sizes(rt: &impl Abort, bytes: &mut [u8], side: Side) {
-    let mut stream = Marked::new(StopsTwice {
-        calls: 0,
-        stop: u32::MAX,
-        how: How::MovesNone,
-        most: ROOM,
-    });
+fn check_sizes(rt: &impl Abort, bytes: &mut [u8], is_read: bool) {
+    let mut stream = Marked::new(StopsTwice::new(u32::MAX, How::MovesNone, ROOM));
     for size in 0..70_000 {
-        let found = moved(rt, &mut stream, side, bytes, size);
-        let found = (found, stream.is_marked());
+        let found = moved(rt, &mut stream, is_read, bytes, size);
         same_at(rt, "the call", size, found, (Ok(size), false));
     }
     same_at(rt, "the calls", 0, stream.into_inner().calls, 70_000);
@@ -287,42 +212,33 @@ fn check_sizes(rt: &impl Abort, bytes: &mut [u8], side: Side) {
 #[test]
 fn no_failure_is_made_up(rt: HostRuntime) -> Result<(), AllocError> {
     let mut bytes = room(rt.alloc())?;
-    check_sizes(&rt, &mut bytes, Side::Reads);
-    check_sizes(&rt, &mut bytes, Side::Writes);
+    check_sizes(&rt, &mut bytes, true);
+    check_sizes(&rt, &mut bytes, false);
     Ok(())
+}
+
+// What a call of a stream of std answers: how many bytes, or the kind of its error.
+fn answer_of(found: std::io::Result<usize>) -> Result<usize, ErrorKind> {
+    found.map_err(|error| error.kind())
 }
 
 // Reads and writes by a stream of which it is noted why it failed. Each failure is told as it came.
 fn check_noted(rt: &impl Abort, kind: ErrorKind, stop: u32) {
     let failure = Cell::new(None);
-    let mut stream = Noting::new(
-        StopsTwice {
-            calls: 0,
-            stop,
-            how: How::Fails(kind),
-            most: 8,
-        },
-        &failure,
-    );
+    let mut stream = Noting::new(StopsTwice::new(stop, How::Fails(kind), 8), &failure);
     let mut part = [0; 8];
     for call in 1..=CALLS {
-        let is_read = call % 2 == 0;
-        let found = if is_read {
+        let found = if call % 2 == 0 {
             stream.read(&mut part)
         } else {
             stream.write(&part)
         };
-        let stops = is_stop(call, stop);
-        let found = match found {
-            Ok(count) => (Some(count), None),
-            Err(error) => (None, Some(error.kind())),
-        };
-        let wanted = if stops {
-            (None, Some(kind))
+        let wanted = if is_stop(call, stop) {
+            Err(kind)
         } else {
-            (Some(8), None)
+            Ok(8)
         };
-        same_at(rt, "the call", call as usize, found, wanted);
+        same_at(rt, "the call", call as usize, answer_of(found), wanted);
         let noted = if stop <= call { Some(kind) } else { None };
         same_at(rt, "the note", call as usize, failure.get(), noted);
     }
@@ -330,9 +246,35 @@ fn check_noted(rt: &impl Abort, kind: ErrorKind, stop: u32) {
 
 #[test]
 fn it_is_noted_why_a_stream_failed(rt: HostRuntime) {
-    for kind in KINDS {
-        for stop in STOPS {
+    for stop in STOPS {
+        for kind in KINDS {
             check_noted(&rt, kind, stop);
         }
+        for number in 0..NUMBERS {
+            check_noted(&rt, kind_of(number), stop);
+        }
     }
+}
+
+// A script over a stream that is interrupted at its first call, and would then work.
+fn check_interrupted(rt: &impl Machine, is_read: bool) {
+    let how = How::Fails(ErrorKind::Interrupted);
+    let mut broken = Marked::new(StopsTwice::new(1, how, 1));
+    let replies = Engine::Script(Print::Replies);
+    if is_read {
+        let mut writer = FailingWriter::new(1024, 10);
+        let ended = replies.run(rt, &mut broken, &mut writer);
+        same(rt, (ended, writer.writes), (Err(CliFault::Read), 0));
+    } else {
+        let mut reader = Marked::new(b"join a\n".as_slice());
+        let ended = replies.run(rt, &mut reader, &mut broken);
+        same(rt, ended, Err(CliFault::Write));
+    }
+    same(rt, broken.into_inner().calls, 1);
+}
+
+#[test]
+fn an_interrupted_stream_ends_a_script(rt: HostRuntime) {
+    check_interrupted(&rt, true);
+    check_interrupted(&rt, false);
 }

@@ -4,85 +4,81 @@
 use crate::tests::engine::Engine;
 use crate::tests::same::same_at;
 use dine_cli::{CliFault, Ended, Print};
+use dine_words::Marked;
 use std::alloc::{AllocError, Global};
-use tests_kit::{FailingReader, FailingWriter, LineCounter, Machine};
+use tests_kit::{FailingReader, FailingWriter, Machine};
 
 // How many lines are equal.
 const LINES: usize = 30_000;
 
-// More reads than any script here takes.
-const MANY: u32 = 1_000_000;
+// A line and its reply, and how many reads of 50,000 bytes the script takes up to its end.
+type Row = (&'static [u8], &'static [u8], u32);
 
-// A line, and its reply.
-type Row = (&'static [u8], &'static [u8]);
+const ROWS: [Row; 2] = [
+    (b"neighbours a\n", b"neighbours\n", 8),
+    (b"state a\n", b"state thinking\n", 5),
+];
 
-const LESS: Row = (b"neighbours a\n", b"neighbours\n");
+const REPLIES: Engine = Engine::Script(Print::Replies);
 
-const MORE: Row = (b"state a\n", b"state thinking\n");
-
-// A task joins, and then it is asked for over and over. The last line lacks its line feed.
-fn push_script(script: &mut Vec<u8>, line: &[u8]) -> Result<(), AllocError> {
-    script.extend_from_slice(b"join a\n")?;
+// A first line, and then another over and over.
+fn text_of(alloc: Global, first: &[u8], line: &[u8]) -> Result<Vec<u8>, AllocError> {
+    let mut text = first.to_vec(alloc)?;
     for _ in 0..LINES {
-        script.extend_from_slice(line)?;
+        text.extend_from_slice(line)?;
     }
-    script.truncate(script.len().saturating_sub(1));
-    Ok(())
+    Ok(text)
 }
 
+// A task joins, and then it is asked for. The last line lacks its line feed.
 fn script_of(alloc: Global, line: &[u8]) -> Result<Vec<u8>, AllocError> {
-    let mut script = Vec::new(alloc);
-    push_script(&mut script, line)?;
+    let mut script = text_of(alloc, b"join a\n", line)?;
+    script.pop();
     Ok(script)
 }
 
-fn check_pieces(rt: &impl Machine, script: &[u8], reply: &[u8], most: usize) {
-    let mut reader = FailingReader::new(script, most, MANY);
-    let mut writer = LineCounter::new(b"joined 0.0\n", reply);
-    let ended = Engine::Script(Print::Replies).run(rt, &mut reader, &mut writer);
+fn check_pieces(rt: &impl Machine, script: &[u8], replies: &[u8], most: usize) {
+    let mut reader = FailingReader::new(script, most, 1_000_000);
+    let mut writer = Marked::new(Vec::new(rt.alloc()));
+    let ended = REPLIES.run(rt, &mut reader, &mut writer);
     same_at(rt, "the end", most, ended, Ok(Ended::Good));
-    let found = (writer.holds_whole_lines(), writer.lines);
-    same_at(rt, "the lines", most, found, (true, LINES));
+    assert!(rt; writer.into_inner().as_slice() == replies);
 }
 
 #[test]
 fn a_long_script_is_answered_however_it_comes(rt: HostRuntime) -> Result<(), AllocError> {
-    for (line, reply) in [LESS, MORE] {
+    for (line, reply, _) in &ROWS {
         let script = script_of(rt.alloc(), line)?;
+        let replies = text_of(rt.alloc(), b"joined 0.0\n", reply)?;
         for most in [999, 65_536, 1_000_000] {
-            check_pieces(&rt, &script, reply, most);
+            check_pieces(&rt, &script, &replies, most);
         }
     }
     Ok(())
 }
 
 // A script of which so many reads succeed, how it ends, and how many reads fail.
-fn check_reads(rt: &impl Machine, script: &[u8], reads: u32, wanted: Result<Ended, CliFault>) {
+fn check_reads(rt: &impl Machine, script: &[u8], reads: u32, wanted: CliFault) {
     let mut reader = FailingReader::new(script, 50_000, reads);
     let mut writer = FailingWriter::new(1024, 0);
-    let ended = Engine::Script(Print::Replies).run(rt, &mut reader, &mut writer);
-    same_at(rt, "the end", reads as usize, ended, wanted);
-    let failed = u32::from(wanted == Err(CliFault::Read));
-    same_at(rt, "failed reads", reads as usize, reader.failures, failed);
-    same_at(
-        rt,
-        "writes",
-        reads as usize,
-        (writer.writes, writer.len),
-        (0, 0),
-    );
+    let ended = REPLIES.run(rt, &mut reader, &mut writer);
+    let place = reads as usize;
+    same_at(rt, "the end", place, ended, Err(wanted));
+    let failed = u32::from(wanted == CliFault::Read);
+    same_at(rt, "failed reads", place, reader.failures, failed);
+    same_at(rt, "writes", place, (writer.writes, writer.len), (0, 0));
 }
 
 // However far a script has come, a read that fails is all that is told. Behind the end nothing is read: so many reads and one
 // more are enough.
 #[test]
 fn nothing_is_written_where_a_late_read_fails(rt: HostRuntime) -> Result<(), AllocError> {
-    for (line, reads) in [(LESS.0, 8), (MORE.0, 5)] {
+    for (line, _, reads) in &ROWS {
         let script = script_of(rt.alloc(), line)?;
-        for few in 0..=reads {
-            check_reads(&rt, &script, few, Err(CliFault::Read));
+        for few in 0..=*reads {
+            check_reads(&rt, &script, few, CliFault::Read);
         }
-        check_reads(&rt, &script, reads.saturating_add(1), Err(CliFault::Write));
+        check_reads(&rt, &script, reads.saturating_add(1), CliFault::Write);
     }
     Ok(())
 }

@@ -1,26 +1,21 @@
 //! Reads and writes that fail in mid-stream, and streams that move little at a time.
 
 use crate::tests::engine::Engine;
+use crate::tests::program::run_over;
 use crate::tests::same::same;
-use dine_cli::{CliFault, Ended, NoFiles, NoGate, Print, Seed, Silence, run_words};
+use dine_cli::{CliFault, Ended, Print, Silence};
 use dine_journal::{Journal, TextFault};
 use dine_replay::{AuditFault, audit};
-use dine_words::{Marked, Sink, Source};
+use dine_words::Marked;
 use tests_kit::{EndlessReader, FailingReader, FailingWriter, JOURNAL, Machine, REPLIES, SCRIPT};
 
-const SCENARIO: &str = "[[worker]]
-repeat = 2
-steps = ['join x', 'eat x', 'leave x']
-";
+const SCENARIO: &str = "[[worker]]\nrepeat = 2\nsteps = ['join x', 'eat x', 'leave x']\n";
 
-const REPORT: &str = "workers 1
-calls 10
-settled
-";
+const REPORT: &str = "workers 1\ncalls 10\nsettled\n";
 
-const VERDICT: &str = "legal 9
-overtakes 0
-";
+const VERDICT: &str = "legal 9\novertakes 0\n";
+
+const TO_JOURNAL: Engine = Engine::Script(Print::Journal);
 
 // An engine, the words that the program is given for it, an input of it, and the output.
 type Row = (Engine, &'static [&'static str], &'static str, &'static str);
@@ -33,7 +28,7 @@ const ROWS: [Row; 5] = [
         REPLIES,
     ),
     (
-        Engine::Script(Print::Journal),
+        TO_JOURNAL,
         &["hygienic", "run", "--journal"],
         SCRIPT,
         JOURNAL,
@@ -77,52 +72,6 @@ fn reads_all(rt: &impl Machine, row: &Row, most: usize, reads: u32) -> bool {
     false
 }
 
-// Audits a journal of which so many reads succeed.
-fn check_failed_audit(rt: &impl Machine, reads: u32) {
-    let mut reader = FailingReader::new(JOURNAL.as_bytes(), 27, reads);
-    let fault = audit(rt.alloc(), &mut reader).err();
-    same(rt, (fault, reader.failures), (Some(AuditFault::Read), 1));
-}
-
-#[test]
-fn an_audit_tells_each_read_that_fails(rt: HostRuntime) {
-    for reads in 0..10 {
-        check_failed_audit(&rt, reads);
-    }
-}
-
-// The first call names a task that isn't there.
-const WRONG: &str = "dine 2 64 256
-0 begin 0.0 -> done
-0 join -> joined 0.0
-0 hungry 0.0 -> done
-";
-
-// Audits a journal of a wrong line and some more, of which so many reads of seven bytes succeed. Says whether none failed.
-fn reads_behind_a_wrong_line(rt: &impl Machine, reads: u32) -> bool {
-    let mut reader = FailingReader::new(WRONG.as_bytes(), 7, reads);
-    let mut writer = FailingWriter::new(1024, MANY);
-    let ended = Engine::Audit.run(rt, &mut reader, &mut writer);
-    if reader.failures == 0 {
-        same(rt, ended, Ok(Ended::Wrong));
-        let told = b"wrong 1 want refused unknown\n";
-        same(rt, writer.written(), told.as_slice());
-        return true;
-    }
-    same(rt, (ended, writer.writes), (Err(CliFault::Read), 0));
-    false
-}
-
-// An audit that isn't long has its answer at the wrong line, and reads on all the same: to the eleven reads of the text
-// comes the one that meets its end.
-#[test]
-fn a_read_that_fails_behind_a_wrong_line_is_told(rt: HostRuntime) {
-    for reads in 0..14 {
-        let met_none = reads_behind_a_wrong_line(&rt, reads);
-        same(&rt, met_none, reads >= 12);
-    }
-}
-
 // Runs an engine whose writes take so many bytes at most, and fail after so many. Says whether it met no failure.
 fn writes_all(rt: &impl Machine, row: &Row, most: usize, writes: u32) -> bool {
     let (engine, _, input, output) = *row;
@@ -140,20 +89,14 @@ fn writes_all(rt: &impl Machine, row: &Row, most: usize, writes: u32) -> bool {
     false
 }
 
-// What fails in turn.
-#[derive(Clone, Copy)]
-enum Side {
-    Reads,
-    Writes,
-}
-
 // Lets each read or write of an engine, of so many bytes at most, fail in turn, until a run meets no failure. Says how many
 // that run makes.
-fn check_failures(rt: &impl Machine, row: &Row, side: Side, most: usize) -> u32 {
+fn check_failures(rt: &impl Machine, row: &Row, is_read: bool, most: usize) -> u32 {
     for left in 0..MANY {
-        let met_none = match side {
-            Side::Reads => reads_all(rt, row, most, left),
-            Side::Writes => writes_all(rt, row, most, left),
+        let met_none = if is_read {
+            reads_all(rt, row, most, left)
+        } else {
+            writes_all(rt, row, most, left)
         };
         if met_none {
             return left;
@@ -165,7 +108,7 @@ fn check_failures(rt: &impl Machine, row: &Row, side: Side, most: usize) -> u32 
 #[test]
 fn each_read_that_fails_writes_nothing(rt: HostRuntime) {
     for row in &ROWS {
-        let reads = check_failures(&rt, row, Side::Reads, 7);
+        let reads = check_failures(&rt, row, true, 7);
         assert!(&rt; reads > 5 && reads < 100);
     }
 }
@@ -174,18 +117,59 @@ fn each_read_that_fails_writes_nothing(rt: HostRuntime) {
 fn nothing_is_written_after_a_failed_write(rt: HostRuntime) {
     for row in &ROWS {
         for most in [1, 10, 1024] {
-            let writes = check_failures(&rt, row, Side::Writes, most);
+            let writes = check_failures(&rt, row, false, most);
             assert!(&rt; writes > 0 && writes < MANY);
+        }
+    }
+}
+
+// Audits a journal of which so many reads succeed.
+fn check_failed_audit(rt: &impl Machine, reads: u32) {
+    let mut reader = FailingReader::new(JOURNAL.as_bytes(), 27, reads);
+    let fault = audit(rt.alloc(), &mut reader).err();
+    same(rt, (fault, reader.failures), (Some(AuditFault::Read), 1));
+}
+
+#[test]
+fn an_audit_tells_each_read_that_fails(rt: HostRuntime) {
+    for reads in 0..10 {
+        check_failed_audit(&rt, reads);
+    }
+}
+
+// The first call names a task that isn't there.
+const WRONG: &[u8] =
+    b"dine 2 64 256\n0 begin 0.0 -> done\n0 join -> joined 0.0\n0 hungry 0.0 -> done\n";
+
+// An audit that isn't long has its answer at the wrong line, and reads on all the same: to the eleven reads of the text
+// comes the one that meets its end.
+#[test]
+fn a_read_that_fails_behind_a_wrong_line_is_told(rt: HostRuntime) {
+    for reads in 0..14 {
+        let mut reader = FailingReader::new(WRONG, 7, reads);
+        let mut writer = FailingWriter::new(1024, MANY);
+        let ended = Engine::Audit.run(&rt, &mut reader, &mut writer);
+        same(&rt, reader.failures == 0, reads >= 12);
+        if reads >= 12 {
+            same(&rt, ended, Ok(Ended::Wrong));
+            let told = b"wrong 1 want refused unknown\n";
+            same(&rt, writer.written(), told.as_slice());
+        } else {
+            same(&rt, (ended, writer.writes), (Err(CliFault::Read), 0));
         }
     }
 }
 
 fn check_nothing_taken(rt: &impl Machine, row: &Row) {
     let (engine, _, input, _) = *row;
-    let mut reader = Marked::new(input.as_bytes());
     let mut writer = FailingWriter::new(0, MANY);
-    let ended = engine.run(rt, &mut reader, &mut writer);
+    let ended = engine.run(rt, &mut Marked::new(input.as_bytes()), &mut writer);
     same(rt, (ended, writer.writes), (Err(CliFault::Write), 1));
+}
+
+fn legal_journal(rt: &impl Machine) -> Journal {
+    let journal = audit(rt.alloc(), &mut Marked::new(JOURNAL.as_bytes()));
+    journal.ok().expect(rt, "the journal is legal")
 }
 
 // A write of a journal's text fails after so many.
@@ -195,11 +179,6 @@ fn check_torn_text(rt: &impl Machine, journal: &Journal, writes: u32) {
     same(rt, written, Err(TextFault::Write));
     same(rt, (writer.writes, writer.failures), (writes, 1));
     assert!(rt; JOURNAL.as_bytes().starts_with(writer.written()));
-}
-
-fn legal_journal(rt: &impl Machine) -> Journal {
-    let journal = audit(rt.alloc(), &mut Marked::new(JOURNAL.as_bytes()));
-    journal.ok().expect(rt, "the journal is legal")
 }
 
 // A writer that takes no byte is as good as one that fails, for a journal's text too.
@@ -214,32 +193,11 @@ fn a_write_that_takes_nothing_has_failed(rt: HostRuntime) {
     }
 }
 
-// Runs the program over streams.
-fn run_over<R: Source, W: Sink>(
-    rt: &impl Machine,
-    words: &[&str],
-    reader: &mut R,
-    writer: &mut W,
-) -> u8 {
-    let mut host = NoFiles { listener: Silence };
-    let seed = Seed::fixed();
-    run_words(
-        rt,
-        rt.alloc(),
-        words,
-        reader,
-        writer,
-        &mut host,
-        &NoGate,
-        seed,
-    )
-}
-
 // The fourth read fails: the program ends with 3, after a last line.
 fn check_failed_read(rt: &impl Machine, words: &[&str], input: &str) {
     let mut reader = FailingReader::new(input.as_bytes(), 7, 3);
     let mut writer = FailingWriter::new(1024, MANY);
-    let status = run_over(rt, words, &mut reader, &mut writer);
+    let (status, _) = run_over(rt, words, &mut reader, &mut writer, Silence);
     same(rt, status, 3);
     same(rt, writer.written(), b"fault read\n".as_slice());
 }
@@ -248,7 +206,7 @@ fn check_failed_read(rt: &impl Machine, words: &[&str], input: &str) {
 fn check_failed_write(rt: &impl Machine, words: &[&str], input: &str, writes: u32) {
     let mut reader = Marked::new(input.as_bytes());
     let mut writer = FailingWriter::new(2, writes);
-    let status = run_over(rt, words, &mut reader, &mut writer);
+    let (status, _) = run_over(rt, words, &mut reader, &mut writer, Silence);
     same(rt, status, 3);
     same(rt, (writer.writes, writer.failures), (writes, 1));
 }
@@ -263,37 +221,28 @@ fn the_program_tells_of_failed_streams(rt: HostRuntime) {
     }
 }
 
-fn check_slow_streams(rt: &impl Machine, row: &Row) {
-    let (engine, _, input, output) = *row;
-    let mut reader = FailingReader::new(input.as_bytes(), 1, MANY);
-    let mut writer = FailingWriter::new(1, MANY);
-    let ended = engine.run(rt, &mut reader, &mut writer);
-    check_well(rt, ended, &writer, output);
-}
-
 #[test]
 fn streams_may_move_one_byte_at_a_time(rt: HostRuntime) {
-    for row in &ROWS {
-        check_slow_streams(&rt, row);
-    }
-}
-
-fn check_endless_input(rt: &impl Machine, engine: Engine) {
-    let mut writer = FailingWriter::new(1024, MANY);
-    let ended = engine.run(rt, &mut EndlessReader, &mut writer);
-    if let Engine::LongAudit = engine {
-        same(rt, ended, Ok(Ended::Fault));
-        same(rt, writer.written(), b"fault header\n".as_slice());
-    } else {
-        same(rt, (ended, writer.writes), (Err(CliFault::Read), 0));
+    for (engine, _, input, output) in &ROWS {
+        let mut reader = FailingReader::new(input.as_bytes(), 1, MANY);
+        let mut writer = FailingWriter::new(1, MANY);
+        let ended = engine.run(&rt, &mut reader, &mut writer);
+        check_well(&rt, ended, &writer, output);
     }
 }
 
 // But for the long audit, which has its answer once the first line is too long.
 #[test]
 fn an_endless_input_is_a_failed_read(rt: HostRuntime) {
-    for row in &ROWS {
-        check_endless_input(&rt, row.0);
+    for (engine, _, _, _) in &ROWS {
+        let mut writer = FailingWriter::new(1024, MANY);
+        let ended = engine.run(&rt, &mut EndlessReader, &mut writer);
+        if let Engine::LongAudit = engine {
+            same(&rt, ended, Ok(Ended::Fault));
+            same(&rt, writer.written(), b"fault header\n".as_slice());
+        } else {
+            same(&rt, (ended, writer.writes), (Err(CliFault::Read), 0));
+        }
     }
     let fault = audit(rt.alloc(), &mut EndlessReader).err();
     same(&rt, fault, Some(AuditFault::Read));

@@ -3,106 +3,64 @@
 ghost use Rattle.std.specs.Prelude.{◌≡◌};
 ghost use Rattle.dine_forks.specs.Book.{empty_book};
 
-use super::BESIDE_E;
 use crate::tests::same::same;
 use dine_arbiter::Arbiter;
 use dine_forks::{Fork, ForkBook};
 use dine_journal::PlainTable;
-use dine_words::{Call, Entry, Refusal, Reply, State, Task};
+use dine_words::{Entry, State, Task};
 use std::alloc::{AllocError, Global};
 use std::process::Abort;
-use tests_kit::{A, B, E, LIMITS, RING, Replied, TURNS};
+use tests_kit::{A, B, D, E, Host, LIMITS, RING, TURNS};
 
-// The task with the longest text.
-const LAST: Task = Task {
-    slot: 4294967295,
-    born: 18446744073709551615,
-};
-
-// What is appended to a text.
-#[derive(Clone, Copy)]
-enum Part {
-    Task(Task),
-    Entry(Call, Reply),
-}
-
-fn append(text: &mut Vec<u8>, part: Part) -> Result<(), AllocError> {
-    match part {
-        Part::Task(task) => task.write_to(text),
-        Part::Entry(call, reply) => {
-            let entry = Entry {
-                pass: 7,
-                call,
-                reply,
-            };
-            entry.write_to(text)
-        }
-    }
-}
-
-// What is appended to a text of one byte, and the whole text then.
-type Appended = (Part, &'static [u8]);
-
-const APPENDED: [Appended; 5] = [
-    (Part::Task(LAST), b"x4294967295.18446744073709551615"),
-    (
-        Part::Entry(Call::Join, Reply::Joined(LAST)),
-        b"x7 join -> joined 4294967295.18446744073709551615",
-    ),
-    (
-        Part::Entry(Call::Conflict(A, LAST), Reply::Refused(Refusal::BothEating)),
-        b"x7 conflict 0.0 4294967295.18446744073709551615 -> refused both-eating",
-    ),
-    (
-        Part::Entry(Call::Finish(B), Reply::Done),
-        b"x7 finish 1.1 -> done",
-    ),
-    (
-        Part::Entry(
-            Call::Begin(B),
-            Reply::Refused(Refusal::WrongState(State::Thinking)),
-        ),
-        b"x7 begin 1.1 -> refused thinking",
-    ),
+// A task and entries, the longest among them, each behind a first byte.
+const APPENDED: [&str; 5] = [
+    "x4294967295.18446744073709551615",
+    "x7 join -> joined 4294967295.18446744073709551615",
+    "x7 conflict 0.0 4294967295.18446744073709551615 -> refused both-eating",
+    "x7 finish 1.1 -> done",
+    "x7 begin 1.1 -> refused thinking",
 ];
 
-// Puts the first byte to a text.
-fn begin(rt: &impl Abort, text: &mut Vec<u8>) {
-    if text.extend_from_slice(b"x").is_err() {
-        same(rt, text.extend_from_slice(b"x"), Ok(()));
+fn append(out: &mut Vec<u8>, text: &str) -> Result<(), AllocError> {
+    match (Task::read(text), Entry::read(text)) {
+        (Some(task), _) => task.write_to(out),
+        (_, Some(entry)) => entry.write_to(out),
+        _ => Ok(()),
     }
 }
 
 // Appends to a text of one byte.
-fn check_appended(rt: &impl Abort, alloc: Global, row: &Appended) {
-    let (part, wanted) = *row;
-    let mut text = Vec::new(alloc);
-    begin(rt, &mut text);
-    if append(&mut text, part).is_err() {
-        same(rt, text.as_slice(), b"x".as_slice());
-        same(rt, append(&mut text, part), Ok(()));
+fn check_appended(rt: &impl Host, wanted: &str) {
+    let mut out = Vec::new(rt.alloc());
+    if out.push(b'x').is_err() {
+        same(rt, out.push(b'x').is_ok(), true);
     }
-    same(rt, text.as_slice(), wanted);
+    let text = wanted.strip_prefix("x").unwrap_or("");
+    if append(&mut out, text).is_err() {
+        same(rt, out.as_slice(), b"x".as_slice());
+        same(rt, append(&mut out, text), Ok(()));
+    }
+    same(rt, out.as_slice(), wanted.as_bytes());
 }
 
 #[test]
 fn a_text_is_appended_whole_or_not_at_all(rt: HostRuntime) {
-    for row in &APPENDED {
-        check_appended(&rt, rt.alloc(), row);
+    for text in &APPENDED {
+        check_appended(&rt, text);
     }
 }
 
 // A book over four slots, with room for two records.
-fn new_book(rt: &impl Abort, alloc: Global) -> ForkBook
+fn new_book(rt: &impl Host) -> ForkBook
     ensures { result ≡ empty_book 4 2 }
 {
-    let made = ForkBook::new(alloc, 4, 2).or_else(|_| ForkBook::new(alloc, 4, 2));
+    let made = ForkBook::new(rt.alloc(), 4, 2).or_else(|_| ForkBook::new(rt.alloc(), 4, 2));
     made.ok().expect(rt, "one growth is refused at most")
 }
 
 #[test]
 fn a_book_is_made_again(rt: HostRuntime) {
-    let mut book = new_book(&rt, rt.alloc());
+    let mut book = new_book(&rt);
     let fork = Fork {
         at_first: false,
         dirty: true,
@@ -115,54 +73,26 @@ fn a_book_is_made_again(rt: HostRuntime) {
     same(&rt, book.unlink(id), fork);
 }
 
-fn new_arbiter(rt: &impl Abort, alloc: Global) -> Arbiter {
-    let made = Arbiter::new(alloc, LIMITS).or_else(|_| Arbiter::new(alloc, LIMITS));
+fn new_arbiter(rt: &impl Host) -> Arbiter {
+    let made = Arbiter::new(rt.alloc(), LIMITS).or_else(|_| Arbiter::new(rt.alloc(), LIMITS));
     made.ok().expect(rt, "one growth is refused at most")
 }
 
-// Makes the calls of the rows, which get the replies of the rows.
-fn acts_all(rt: &impl Abort, arbiter: &mut Arbiter, rows: &[Replied]) {
-    for (call, reply) in rows {
-        assert!(rt; arbiter.clock() < 100);
-        same(rt, arbiter.apply(*call), *reply);
-    }
-}
+// The entries of the calls that an arbiter makes, its clock and how many conflicts it has then, the state of a task, and its
+// neighbours.
+type Case = (
+    &'static str,
+    (u64, u32),
+    (Task, Option<State>),
+    Option<&'static [Task]>,
+);
 
-// The calls that an arbiter makes, its clock and how many conflicts it has then, the state of a task, and its neighbours.
-struct Case {
-    calls: &'static [Replied],
-    clock: u64,
-    conflicts: u32,
-    task: Task,
-    state: Option<State>,
-    beside: Option<&'static [Task]>,
-}
+const NOBODY: Task = Task { slot: 9, born: 9 };
 
 const CASES: [Case; 3] = [
-    Case {
-        calls: &TURNS,
-        clock: 3,
-        conflicts: 1,
-        task: B,
-        state: Some(State::Eating),
-        beside: Some(&[A]),
-    },
-    Case {
-        calls: &RING,
-        clock: 5,
-        conflicts: 5,
-        task: E,
-        state: Some(State::Hungry),
-        beside: Some(&BESIDE_E),
-    },
-    Case {
-        calls: &RING,
-        clock: 5,
-        conflicts: 5,
-        task: LAST,
-        state: None,
-        beside: None,
-    },
+    (TURNS, (3, 1), (B, Some(State::Eating)), Some(&[A])),
+    (RING, (5, 5), (E, Some(State::Hungry)), Some(&[D, A])),
+    (RING, (5, 5), (NOBODY, None), None),
 ];
 
 fn beside(alloc: Global, arbiter: &Arbiter, task: Task) -> Result<Option<Vec<Task>>, AllocError> {
@@ -170,28 +100,29 @@ fn beside(alloc: Global, arbiter: &Arbiter, task: Task) -> Result<Option<Vec<Tas
 }
 
 // The neighbours of a task. Where there is no memory for them, they are asked for again.
-fn is_beside(rt: &impl Abort, alloc: Global, arbiter: &Arbiter, case: &Case) {
-    let mut found = beside(alloc, arbiter, case.task);
-    if found.is_err() {
-        found = beside(alloc, arbiter, case.task);
-    }
+fn is_beside(rt: &impl Host, arbiter: &Arbiter, task: Task, wanted: Option<&[Task]>) {
+    let found = beside(rt.alloc(), arbiter, task).or_else(|_| beside(rt.alloc(), arbiter, task));
     let found = found.ok().expect(rt, "one growth is refused at most");
-    same(rt, found.as_deref(), case.beside);
+    same(rt, found.as_deref(), wanted);
 }
 
-fn check_case(rt: &impl Abort, alloc: Global, case: &Case) {
-    let mut arbiter = new_arbiter(rt, alloc);
-    acts_all(rt, &mut arbiter, case.calls);
-    let size = (arbiter.clock(), arbiter.book().len());
-    same(rt, size, (case.clock, case.conflicts));
-    same(rt, arbiter.state(case.task), case.state);
-    is_beside(rt, alloc, &arbiter, case);
+fn check_case(rt: &impl Host, case: &Case) {
+    let (entries, wanted, (task, state), neighbours) = *case;
+    let mut arbiter = new_arbiter(rt);
+    for text in entries.split("; ") {
+        let Entry { call, reply, .. } = Entry::read(text).expect(rt, "an entry");
+        assert!(rt; arbiter.clock() < 100);
+        same(rt, arbiter.apply(call), reply);
+    }
+    same(rt, (arbiter.clock(), arbiter.book().len()), wanted);
+    same(rt, arbiter.state(task), state);
+    is_beside(rt, &arbiter, task, neighbours);
 }
 
 #[test]
 fn an_arbiter_is_made_and_tells_the_neighbours_again(rt: HostRuntime) {
     for case in &CASES {
-        check_case(&rt, rt.alloc(), case);
+        check_case(&rt, case);
     }
 }
 
@@ -205,36 +136,28 @@ fn standing(table: &PlainTable) -> (u64, Option<State>, Option<State>, Option<Ta
     )
 }
 
-// Makes a call at a plain table. One that finds no memory changes nothing, and is made again.
-fn applied_again(
-    rt: &impl Abort,
-    table: &mut PlainTable,
-    call: Call,
-    reply: Reply,
-) -> Result<Reply, AllocError> {
-    assert!(rt; table.clock() < 100);
+// Makes the call of an entry at a plain table, which replies as the entry says. One that finds no memory changes nothing, and
+// is made again.
+fn applies_again(rt: &impl Abort, table: &mut PlainTable, text: &str) {
+    let Entry { call, reply, .. } = Entry::read(text).expect(rt, "an entry");
     let before = standing(table);
-    match table.apply(call) {
-        Ok(made) => Ok(made),
-        Err(_) => {
-            same(rt, standing(table), before);
-            same(rt, table.reply_to(call), reply);
-            table.apply(call)
-        }
+    assert!(rt; table.clock() < 100);
+    let mut made = table.apply(call);
+    if made.is_err() {
+        same(rt, standing(table), before);
+        same(rt, table.reply_to(call), reply);
+        assert!(rt; table.clock() < 100);
+        made = table.apply(call);
     }
-}
-
-// Makes the calls of the rows at a plain table, whose replies are those of the rows.
-fn check_plain_table(rt: &impl Abort, alloc: Global, rows: &[Replied]) {
-    let mut table = PlainTable::new(alloc, LIMITS);
-    for (call, reply) in rows {
-        let made = applied_again(rt, &mut table, *call, *reply);
-        same(rt, made, Ok(*reply));
-    }
+    same(rt, made, Ok(reply));
 }
 
 #[test]
 fn a_call_of_the_plain_table_is_made_again(rt: HostRuntime) {
-    check_plain_table(&rt, rt.alloc(), &TURNS);
-    check_plain_table(&rt, rt.alloc(), &RING);
+    for entries in [TURNS, RING] {
+        let mut table = PlainTable::new(rt.alloc(), LIMITS);
+        for text in entries.split("; ") {
+            applies_again(&rt, &mut table, text);
+        }
+    }
 }

@@ -21,23 +21,21 @@ enum Ask {
     Stop,
 }
 
-// What is asked, and the place and the reply, or that the front is stopped.
-type Row = (Ask, Result<(u64, Reply), FrontFault>);
+const THINKS: Reply = Reply::Refused(Refusal::WrongState(State::Thinking));
 
-// One pass does all.
-const ASKED: [Row; 11] = [
+const STOPPED: Result<(u64, Reply), FrontFault> = Err(FrontFault::Stopped);
+
+// What one pass asks, and the place and the reply, or that the front is stopped.
+const ASKED: [(Ask, Result<(u64, Reply), FrontFault>); 11] = [
     (Ask::Act(Call::Join), Ok((0, Reply::Joined(A)))),
     (Ask::Act(Call::Join), Ok((1, Reply::Joined(B)))),
     (Ask::Act(Call::Conflict(A, B)), Ok((2, Reply::Done))),
     (Ask::Act(Call::Hungry(A)), Ok((3, Reply::Done))),
     (Ask::InTurn(A), Ok((4, Reply::Done))),
-    (
-        Ask::InTurn(B),
-        Ok((5, Reply::Refused(Refusal::WrongState(State::Thinking)))),
-    ),
+    (Ask::InTurn(B), Ok((5, THINKS))),
     (Ask::Act(Call::Hungry(B)), Ok((6, Reply::Done))),
-    (Ask::Stop, Err(FrontFault::Stopped)),
-    (Ask::InTurn(B), Err(FrontFault::Stopped)),
+    (Ask::Stop, STOPPED),
+    (Ask::InTurn(B), STOPPED),
     (Ask::Act(Call::Finish(A)), Ok((7, Reply::Done))),
     (Ask::InTurn(B), Ok((8, Reply::Done))),
 ];
@@ -58,27 +56,16 @@ fn asked<J: Naming, R: Wait>(
     }
 }
 
-// Asks something of a front. What finds no memory leaves the pass as it was, and is asked again.
-fn asked_again<J: Naming, R: Wait + Abort>(
-    rt: &R,
-    front: &Front<J>,
-    pass: &mut Pass<J>,
-    ask: Ask,
-) -> Result<Answer, FrontFault> {
-    let count = pass.count();
-    let answered = asked(rt, front, pass, ask);
-    if answered != Err(FrontFault::Memory) {
-        return answered;
-    }
-    same(rt, pass.count(), count);
-    same(rt, pass.receipts().len() as u64, count);
-    asked(rt, front, pass, ask)
-}
-
-// Asks all of a front.
+// Asks all of a front. What finds no memory leaves the pass as it was, and is asked again.
 fn ask_all<J: Naming, R: Wait + Abort>(rt: &R, front: &Front<J>, pass: &mut Pass<J>) {
     for (ask, wanted) in &ASKED {
-        let found = asked_again(rt, front, pass, *ask);
+        let count = pass.count();
+        let mut found = asked(rt, front, pass, *ask);
+        if found == Err(FrontFault::Memory) {
+            let kept = (pass.count(), pass.receipts().len() as u64);
+            same(rt, kept, (count, count));
+            found = asked(rt, front, pass, *ask);
+        }
         same(rt, found.map(|made| (made.place, made.reply)), *wanted);
     }
 }
@@ -103,19 +90,15 @@ fn is_opened_and_asked<J: Naming, R: Wait + Abort>(
         ask_all(rt, &front, pass);
     }
     let closed = front.close(rt, passes);
-    same(
-        rt,
-        (closed.verdict, closed.journal.len()),
-        (Verdict::Settled, 9),
-    );
+    let found = (closed.verdict, closed.journal.len());
+    same(rt, found, (Verdict::Settled, 9));
     true
 }
 
 // What a front of one pass is opened from.
 fn from(rt: &impl Abort) -> Opened {
-    Opened::new(LIMITS, 1)
-        .ok()
-        .expect(rt, "a front may have one pass")
+    let opened = Opened::new(LIMITS, 1);
+    opened.ok().expect(rt, "a front may have one pass")
 }
 
 #[test]

@@ -7,7 +7,7 @@ use dine_forks::Fork;
 use dine_words::{Call, Limits, Reply, State, Task};
 use std::alloc::Global;
 use std::process::Abort;
-use tests_kit::Draw;
+use tests_kit::{Draw, Host, draw_call};
 
 // The most tasks and conflicts of a table, and how many calls are drawn.
 type Table = (u32, u32, u32);
@@ -23,21 +23,6 @@ fn draw_task(arbiter: &Arbiter, draw: &mut Draw) -> Task {
     match u32::try_from(slot) {
         Ok(slot) => arbiter.task_at(slot).unwrap_or(NOBODY),
         Err(_) => NOBODY,
-    }
-}
-
-fn draw_call(arbiter: &Arbiter, draw: &mut Draw) -> Call {
-    let first = draw_task(arbiter, draw);
-    let second = draw_task(arbiter, draw);
-    match draw.below(22) {
-        0..=1 => Call::Join,
-        2 => Call::Leave(first),
-        3..=6 => Call::Conflict(first, second),
-        7 => Call::Separate(first, second),
-        8..=11 => Call::Hungry(first),
-        12..=16 => Call::Begin(first),
-        17..=19 => Call::Finish(first),
-        _ => Call::Withdraw(first),
     }
 }
 
@@ -73,7 +58,9 @@ fn make_calls(rt: &impl Abort, arbiter: &mut Arbiter, calls: u32) -> u32 {
     let mut draw = Draw { state: 1984 };
     let mut accepted: u32 = 0;
     for turn in 0..calls {
-        let call = draw_call(arbiter, &mut draw);
+        let first = draw_task(arbiter, &mut draw);
+        let second = draw_task(arbiter, &mut draw);
+        let call = draw_call(&mut draw, first, second);
         if make_call(rt, arbiter, call, turn % 3 == 0) {
             accepted = accepted.saturating_add(1);
         }
@@ -85,52 +72,34 @@ fn make_calls(rt: &impl Abort, arbiter: &mut Arbiter, calls: u32) -> u32 {
     accepted
 }
 
-fn check_table(rt: &impl Abort, alloc: Global, table: &Table) {
+fn check_table(rt: &impl Host, table: &Table) {
     let (tasks, conflicts, calls) = *table;
     let limits = Limits::new(tasks, conflicts).expect(rt, "the limits are in range");
-    let mut arbiter = Arbiter::new(alloc, limits).ok().expect(rt, "memory");
-    begins(alloc);
+    let mut arbiter = Arbiter::new(rt.alloc(), limits).ok().expect(rt, "memory");
+    begins(rt.alloc());
     let accepted = make_calls(rt, &mut arbiter, calls);
-    ends(alloc);
+    ends(rt.alloc());
     assert!(rt; accepted > calls / 20);
 }
 
 #[test]
 fn an_arbiter_that_is_made_takes_no_memory(rt: HostRuntime) {
     for table in &TABLES {
-        check_table(&rt, rt.alloc(), table);
+        check_table(&rt, table);
     }
 }
 
 const STATES: [State; 3] = [State::Thinking, State::Hungry, State::Eating];
 
-const FORKS: [Fork; 4] = [
-    Fork {
-        at_first: true,
-        dirty: true,
-        token_first: true,
-    },
-    Fork {
-        at_first: true,
-        dirty: true,
-        token_first: false,
-    },
-    Fork {
-        at_first: false,
-        dirty: true,
-        token_first: true,
-    },
-    Fork {
-        at_first: false,
-        dirty: false,
-        token_first: false,
-    },
-];
-
 // Settles each fork between ends in each state, and says how many messages that takes in all.
 fn settle_all() -> u32 {
     let mut messages: u32 = 0;
-    for fork in FORKS {
+    for bits in 0..8u8 {
+        let fork = Fork {
+            at_first: bits & 1 == 0,
+            dirty: bits & 2 == 0,
+            token_first: bits & 4 == 0,
+        };
         for first in STATES {
             for second in STATES {
                 let (_, sent) = settle_edge(fork, first, second);

@@ -15,12 +15,12 @@ use tests_kit::{A, B, LIMITS};
 
 const NOBODY: Task = Task { slot: 0, born: 7 };
 
-// What one pass does between looks, over and over.
-const MEAL: [Call; 4] = [
-    Call::Hungry(A),
-    Call::Begin(A),
-    Call::Finish(A),
-    Call::Hungry(NOBODY),
+// What one pass does between looks, over and over, and what is seen of the first task then.
+const MEAL: [(Call, State); 4] = [
+    (Call::Hungry(A), State::Hungry),
+    (Call::Begin(A), State::Eating),
+    (Call::Finish(A), State::Thinking),
+    (Call::Hungry(NOBODY), State::Thinking),
 ];
 
 const MEALS: u32 = 50;
@@ -29,32 +29,29 @@ const MEALS: u32 = 50;
 fn look<J: Naming>(pass: &mut Pass<J>) -> Option<State> {
     let _ = (pass.number(), pass.count());
     let _ = (pass.receipts().is_empty(), pass.receipts().len());
-    let _ = pass.look(B);
-    let _ = pass.look(NOBODY);
-    let _ = pass.look(A);
+    for task in [B, NOBODY, A] {
+        let _ = pass.look(task);
+    }
     pass.look(A).ok()?
 }
 
-// All passes look.
-fn look_all<J: Naming>(rt: &impl Abort, alloc: Global, passes: &mut Vec<Pass<J>>, state: State) {
+// Makes a call with the first pass, and all passes look.
+fn act<J: Naming, R: Wait + Abort>(
+    rt: &R,
+    alloc: Global,
+    front: &Front<J>,
+    passes: &mut Vec<Pass<J>>,
+    (call, state): (Call, State),
+) {
+    let pass = passes.first_mut().expect(rt, "a pass");
+    let made = front.act(rt, pass, call);
+    assert!(rt; made.is_ok());
     for pass in passes {
         begins(alloc);
         let seen = look(pass);
         ends(alloc);
         same(rt, seen, Some(state));
     }
-}
-
-// Makes a call with the first pass.
-fn act<J: Naming, R: Wait + Abort>(
-    rt: &R,
-    front: &Front<J>,
-    passes: &mut Vec<Pass<J>>,
-    call: Call,
-) {
-    let pass = passes.first_mut().expect(rt, "a pass");
-    let made = front.act(rt, pass, call);
-    assert!(rt; made.is_ok());
 }
 
 // Somebody eats over and over, and all passes look behind each call.
@@ -64,16 +61,10 @@ fn eat<J: Naming, R: Wait + Abort>(
     front: &Front<J>,
     passes: &mut Vec<Pass<J>>,
 ) {
-    act(rt, front, passes, Call::Join);
+    act(rt, alloc, front, passes, (Call::Join, State::Thinking));
     for _ in 0..MEALS {
-        for call in MEAL {
-            act(rt, front, passes, call);
-            let state = match call {
-                Call::Begin(_) => State::Eating,
-                Call::Hungry(task) if task == A => State::Hungry,
-                _ => State::Thinking,
-            };
-            look_all(rt, alloc, passes, state);
+        for step in MEAL {
+            act(rt, alloc, front, passes, step);
         }
     }
 }
@@ -100,11 +91,8 @@ fn use_front<J: Naming, R: Wait + Abort>(rt: &R, alloc: Global, ledger: Blank, f
     let (front, mut passes) = opened.ok().expect(rt, "memory and places");
     eat(rt, alloc, &front, &mut passes);
     let closed = close(rt, alloc, front, passes);
-    same(
-        rt,
-        (closed.verdict, closed.journal.len()),
-        (Verdict::Settled, 201),
-    );
+    let found = (closed.verdict, closed.journal.len());
+    same(rt, found, (Verdict::Settled, 201));
 }
 
 #[test]

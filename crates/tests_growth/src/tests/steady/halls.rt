@@ -3,54 +3,49 @@
 use super::{begins, ends};
 use crate::tests::same::same;
 use dine_journal::{Answer, Hall, History, PlainTable};
-use dine_words::{Call, Entry, Refusal, Reply, State};
+use dine_words::{Call, Entry, Reply, State};
 use std::alloc::{AllocError, Global};
 use std::process::Abort;
-use tests_kit::{A, B, C, D, LIMITS, RING, Replied};
+use tests_kit::{A, B, Host, LIMITS, RING};
 
 // What five round a table do once all are hungry and the first eats.
-const MORE: [Replied; 6] = [
-    (Call::Begin(B), Reply::Refused(Refusal::NotYet)),
-    (Call::Finish(A), Reply::Done),
-    (Call::Begin(B), Reply::Done),
-    (Call::Withdraw(C), Reply::Done),
-    (Call::Separate(C, D), Reply::Done),
-    (Call::Leave(C), Reply::Done),
-];
+const MORE: &str = "0 begin 1.1 -> refused not-yet; 0 finish 0.0 -> done; 0 begin 1.1 -> done; \
+    0 withdraw 2.2 -> done; 0 separate 2.2 3.3 -> done; 0 leave 2.2 -> done";
 
-// Makes a call in a hall that has room for it.
-fn act_in_room(rt: &impl Abort, alloc: Global, hall: &mut Hall, row: &Replied) {
-    let (call, reply) = *row;
-    let place = hall.history().len() as u64;
-    same(rt, hall.reserve(), Ok(()));
-    begins(alloc);
-    same(rt, hall.reply_to(call), reply);
-    same(rt, hall.has_room(), true);
-    let made = hall.act(7, call);
-    ends(alloc);
-    same(rt, made, Ok(Answer { place, reply }));
+// Makes the calls of entries in a hall, for each of which there is room then: as any, or as ones whose reply is known.
+fn act_in_room(rt: &impl Host, hall: &mut Hall, entries: &str, is_known: bool) {
+    for text in entries.split("; ") {
+        let entry = Entry::read(text).expect(rt, "an entry");
+        let Entry { pass, call, reply } = entry;
+        let place = hall.history().len() as u64;
+        same(rt, hall.reserve(), Ok(()));
+        let made = if is_known {
+            act_known(rt, hall, pass, call)
+        } else {
+            act(rt, hall, pass, call)
+        };
+        same(rt, made, Ok(Answer { place, reply }));
+    }
 }
 
-// Makes a call whose reply is known in a hall that has room for it.
-fn act_known_in_room(rt: &impl Abort, alloc: Global, hall: &mut Hall, row: &Replied) {
-    let (call, wanted) = *row;
-    let place = hall.history().len() as u64;
-    same(rt, hall.reserve(), Ok(()));
+fn act(rt: &impl Host, hall: &mut Hall, pass: u32, call: Call) -> Result<Answer, AllocError> {
+    begins(rt.alloc());
+    let reply = hall.reply_to(call);
+    same(rt, hall.has_room(), true);
+    let made = hall.act(pass, call);
+    ends(rt.alloc());
+    same(rt, made.map(|answer| answer.reply), Ok(reply));
+    made
+}
+
+fn act_known(rt: &impl Host, hall: &mut Hall, pass: u32, call: Call) -> Result<Answer, AllocError> {
     let has_room = hall.has_room();
     assert!(rt; has_room);
-    begins(alloc);
+    begins(rt.alloc());
     let reply = hall.reply_to(call);
-    let made = hall.act_answered(Entry {
-        pass: 7,
-        call,
-        reply,
-    });
-    ends(alloc);
-    let wanted = Answer {
-        place,
-        reply: wanted,
-    };
-    same(rt, made, wanted);
+    let made = hall.act_answered(Entry { pass, call, reply });
+    ends(rt.alloc());
+    Ok(made)
 }
 
 // Asks all that can be asked of a hall in which the first of the five eats.
@@ -65,58 +60,37 @@ fn ask(rt: &impl Abort, hall: &Hall) {
 }
 
 // The journal of a hall has so many entries.
-fn check_journal(rt: &impl Abort, alloc: Global, hall: Hall, entries: u64) {
-    begins(alloc);
+fn check_journal(rt: &impl Host, hall: Hall, entries: u64) {
+    begins(rt.alloc());
     let journal = hall.into_journal();
     let found = (journal.len(), journal.limits());
     let first = journal.entry(0);
-    ends(alloc);
+    ends(rt.alloc());
     same(rt, found, (entries, LIMITS));
     same(rt, first.map(|entry| entry.call), Some(Call::Join));
 }
 
 #[test]
 fn a_hall_with_room_takes_no_memory(rt: HostRuntime) -> Result<(), AllocError> {
-    let mut hall = Hall::new(rt.alloc(), LIMITS)?;
-    for row in &RING {
-        act_in_room(&rt, rt.alloc(), &mut hall, row);
+    for is_known in [false, true] {
+        let mut hall = Hall::new(rt.alloc(), LIMITS)?;
+        act_in_room(&rt, &mut hall, RING, is_known);
+        begins(rt.alloc());
+        ask(&rt, &hall);
+        ends(rt.alloc());
+        act_in_room(&rt, &mut hall, MORE, is_known);
+        check_journal(&rt, hall, 22);
     }
-    begins(rt.alloc());
-    ask(&rt, &hall);
-    ends(rt.alloc());
-    for row in &MORE {
-        act_in_room(&rt, rt.alloc(), &mut hall, row);
-    }
-    check_journal(&rt, rt.alloc(), hall, 22);
     Ok(())
 }
 
 #[test]
-fn a_call_whose_reply_is_known_takes_no_memory(rt: HostRuntime) -> Result<(), AllocError> {
-    let mut hall = Hall::new(rt.alloc(), LIMITS)?;
-    for row in &RING {
-        act_known_in_room(&rt, rt.alloc(), &mut hall, row);
-    }
-    for row in &MORE {
-        act_known_in_room(&rt, rt.alloc(), &mut hall, row);
-    }
-    check_journal(&rt, rt.alloc(), hall, 22);
-    Ok(())
-}
-
-#[test]
-fn a_history_that_is_new_has_no_memory(rt: HostRuntime) {
+fn what_is_new_has_no_memory(rt: HostRuntime) {
     begins(rt.alloc());
     let journal = History::new(rt.alloc()).into_journal(LIMITS);
-    ends(rt.alloc());
-    same(&rt, journal.len(), 0);
-}
-
-#[test]
-fn a_plain_table_that_is_new_has_no_memory(rt: HostRuntime) {
-    begins(rt.alloc());
     let table = PlainTable::new(rt.alloc(), LIMITS);
     same(&rt, table.reply_to(Call::Join), Reply::Joined(A));
     same(&rt, (table.state(A), table.next_ready()), (None, None));
     ends(rt.alloc());
+    same(&rt, journal.len(), 0);
 }

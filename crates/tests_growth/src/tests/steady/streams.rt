@@ -9,46 +9,55 @@ use dine_script::{Ended, Print, Seed, Silence, run_script};
 use dine_serve::run_serve;
 use dine_words::{Failed, Sink, Source};
 use std::alloc::{AllocError, Global};
-use std::process::Abort;
-use tests_kit::LIMITS;
+use tests_kit::{Host, LIMITS};
 
-// At which call nothing grows from then on, and at which it may again, counted from 1.
-#[derive(Clone, Copy)]
-struct Span {
-    first: u32,
-    last: u32,
-}
+// At which call of a stream nothing grows from then on, and at which it may again, counted from 1.
+type Span = (u32, u32);
 
 // In no run are there so many calls.
-const NEVER: Span = Span { first: 0, last: 0 };
+const NEVER: Span = (0, 0);
 
-// Counts a call of a stream, and says whether the span begins or ends there.
-fn count(calls: &mut u32, span: Span, alloc: Global) {
-    *calls = calls.saturating_add(1);
-    if *calls == span.first {
-        begins(alloc);
-    }
-    if *calls == span.last {
-        ends(alloc);
-    }
-}
+const LATE: Span = (200, 400);
 
-/// A reader of a text in pieces of a thousand bytes. From one read to another nothing grows.
+/// A reader of a text in pieces of a thousand bytes, or a writer that takes all and keeps nothing. From one call to another
+/// nothing grows.
 #[derive(Drop)]
-struct Pieces<'a> {
+struct Counted<'a> {
     alloc: Global,
     rest: &'a [u8],
-    reads: u32,
+    calls: u32,
     span: Span,
 }
 
-impl Source for Pieces<'_> {
+impl<'a> Counted<'a> {
+    fn new(alloc: Global, text: &'a str, span: Span) -> Self {
+        Counted {
+            alloc,
+            rest: text.as_bytes(),
+            calls: 0,
+            span,
+        }
+    }
+
+    // Counts a call, and says whether the span begins or ends there.
+    fn count(&mut self) {
+        self.calls = self.calls.saturating_add(1);
+        if self.calls == self.span.0 {
+            begins(self.alloc);
+        }
+        if self.calls == self.span.1 {
+            ends(self.alloc);
+        }
+    }
+}
+
+impl Source for Counted<'_> {
     ghost remaining = { λ _. None };
 
     ghost mark = { λ _. Bool.false };
 
     fn read(&mut self, buffer: &mut [u8]) -> Result<usize, Failed> {
-        count(&mut self.reads, self.span, self.alloc);
+        self.count();
         let count = self.rest.len().min(buffer.len()).min(1_000);
         buffer[..count].copy_from_slice(&self.rest[..count]);
         self.rest = &self.rest[count..];
@@ -56,39 +65,14 @@ impl Source for Pieces<'_> {
     }
 }
 
-/// A writer that takes all and keeps nothing. From one write to another nothing grows.
-#[derive(Drop)]
-struct Sunk {
-    alloc: Global,
-    writes: u32,
-    span: Span,
-}
-
-impl Sink for Sunk {
+impl Sink for Counted<'_> {
     ghost contents = { λ _. None };
 
     ghost mark = { λ _. Bool.false };
 
     fn write(&mut self, bytes: &[u8]) -> Result<usize, Failed> {
-        count(&mut self.writes, self.span, self.alloc);
+        self.count();
         Ok(bytes.len())
-    }
-}
-
-fn reader_of(alloc: Global, text: &[u8], span: Span) -> Pieces<'_> {
-    Pieces {
-        alloc,
-        rest: text,
-        reads: 0,
-        span,
-    }
-}
-
-fn writer_with(alloc: Global, span: Span) -> Sunk {
-    Sunk {
-        alloc,
-        writes: 0,
-        span,
     }
 }
 
@@ -109,37 +93,24 @@ const JOINS: &str = "join a\njoin b\nconflict a b\n";
 const QUESTION: &str = "state a\n";
 
 // What usual lines there are, but for those that bind a name or list tasks.
-const LINES: &str = "hungry a
-begin a
-hungry b
-begin b
-finish a
-begin b
-finish b
-hungry a
-withdraw a
-separate a b
-conflict a b
-# a remark
-state b
-next
-";
+const LINES: &str = "hungry a\nbegin a\nhungry b\nbegin b\nfinish a\nbegin b\nfinish b\nhungry a\n\
+    withdraw a\nseparate a b\nconflict a b\n# a remark\nstate b\nnext\n";
 
-// Runs a script, and says how it ended.
-fn run(alloc: Global, reader: &mut Pieces, writer: &mut Sunk, print: Print) -> Option<Ended> {
-    let seed = Seed::fixed();
-    run_script(alloc, reader, writer, LIMITS, print, seed, &mut Silence).ok()
+// Runs a script: it ends well.
+fn run(rt: &impl Host, print: Print, reader: &mut Counted, writer: &mut Counted) {
+    let (alloc, seed, mut nobody) = (rt.alloc(), Seed::fixed(), Silence);
+    let ended = run_script(alloc, reader, writer, LIMITS, print, seed, &mut nobody);
+    same(rt, ended, Ok(Ended::Good));
 }
 
 // Behind the questions, which print more than they say, the lines are carried out from a whole text.
 #[test]
 fn a_script_takes_no_memory_for_usual_lines(rt: HostRuntime) -> Result<(), AllocError> {
     let text = text_of(rt.alloc(), JOINS, [(QUESTION, 20_000), (LINES, 5_000)])?;
-    let mut reader = reader_of(rt.alloc(), text.as_bytes(), NEVER);
-    let mut writer = writer_with(rt.alloc(), Span { first: 2, last: 6 });
-    let ended = run(rt.alloc(), &mut reader, &mut writer, Print::Replies);
-    same(&rt, ended, Some(Ended::Good));
-    assert!(&rt; writer.writes >= 6);
+    let mut reader = Counted::new(rt.alloc(), &text, NEVER);
+    let mut writer = Counted::new(rt.alloc(), "", (2, 6));
+    run(&rt, Print::Replies, &mut reader, &mut writer);
+    assert!(&rt; writer.calls >= 6);
     Ok(())
 }
 
@@ -149,69 +120,34 @@ const PASSED_OVER: &str = "state a\nnext\n# a remark\n\nstate b\n";
 #[test]
 fn a_script_takes_no_memory_for_what_prints_nothing(rt: HostRuntime) -> Result<(), AllocError> {
     let text = text_of(rt.alloc(), JOINS, [(PASSED_OVER, 10_000), ("", 0)])?;
-    let span = Span {
-        first: 150,
-        last: 300,
-    };
-    let mut reader = reader_of(rt.alloc(), text.as_bytes(), span);
-    let mut writer = writer_with(rt.alloc(), NEVER);
-    let ended = run(rt.alloc(), &mut reader, &mut writer, Print::Journal);
-    same(&rt, ended, Some(Ended::Good));
-    assert!(&rt; reader.reads >= span.last);
+    let mut reader = Counted::new(rt.alloc(), &text, (150, 300));
+    let mut writer = Counted::new(rt.alloc(), "", NEVER);
+    run(&rt, Print::Journal, &mut reader, &mut writer);
+    assert!(&rt; reader.calls >= 300);
     Ok(())
 }
 
 const SERVED: &str = "0 join\n0 join\n0 conflict 0.0 1.1\n";
 
 // Each kind of request, but for those that list tasks.
-const REQUESTS: &str = "0 hungry 0.0
-0 begin 0.0
-1 hungry 1.1
-1 await 1.1
-0 finish 0.0
-1 finish 1.1
-0 hungry 0.0
-0 withdraw 0.0
-0 separate 0.0 1.1
-0 conflict 0.0 1.1
-1 hungry 1.1
-0 hungry 0.0
-1 begin 1.1
-0 await 0.0
-0 cancel 0.0
-1 finish 1.1
-0 withdraw 0.0
-0 begin 0.0
-0 nonsense
-# a remark
-state 0.0
-next
-";
+const REQUESTS: &str = "0 hungry 0.0\n0 begin 0.0\n1 hungry 1.1\n1 await 1.1\n0 finish 0.0\n\
+    1 finish 1.1\n0 hungry 0.0\n0 withdraw 0.0\n0 separate 0.0 1.1\n0 conflict 0.0 1.1\n\
+    1 hungry 1.1\n0 hungry 0.0\n1 begin 1.1\n0 await 0.0\n0 cancel 0.0\n1 finish 1.1\n\
+    0 withdraw 0.0\n0 begin 0.0\n0 nonsense\n# a remark\nstate 0.0\nnext\n";
 
-// Serves a text.
-fn serve(alloc: Global, reader: &mut Pieces, passes: Option<u32>) -> Option<Ended> {
-    run_serve(
-        alloc,
-        reader,
-        &mut writer_with(alloc, NEVER),
-        LIMITS,
-        passes,
-    )
-    .ok()
+// Serves a text, late in which nothing grows.
+fn serve(rt: &impl Host, text: &str, passes: Option<u32>, wanted: Ended) {
+    let mut reader = Counted::new(rt.alloc(), text, LATE);
+    let mut writer = Counted::new(rt.alloc(), "", NEVER);
+    let ended = run_serve(rt.alloc(), &mut reader, &mut writer, LIMITS, passes);
+    same(rt, ended.ok(), Some(wanted));
+    assert!(rt; reader.calls >= LATE.1);
 }
-
-const LATE: Span = Span {
-    first: 200,
-    last: 400,
-};
 
 #[test]
 fn a_broker_under_way_takes_no_memory(rt: HostRuntime) -> Result<(), AllocError> {
     let text = text_of(rt.alloc(), SERVED, [(REQUESTS, 2_000), ("", 0)])?;
-    let mut reader = reader_of(rt.alloc(), text.as_bytes(), LATE);
-    let ended = serve(rt.alloc(), &mut reader, None);
-    same(&rt, ended, Some(Ended::Fault));
-    assert!(&rt; reader.reads >= LATE.last);
+    serve(&rt, &text, None, Ended::Fault);
     Ok(())
 }
 
@@ -232,39 +168,24 @@ fn numbered(alloc: Global) -> Result<String, AllocError> {
 }
 
 #[test]
-fn a_broker_of_numbered_passes_under_way_takes_no_memory(
-    rt: HostRuntime,
-) -> Result<(), AllocError> {
-    let text = numbered(rt.alloc())?;
-    let mut reader = reader_of(rt.alloc(), text.as_bytes(), LATE);
-    let ended = serve(rt.alloc(), &mut reader, Some(2));
-    same(&rt, ended, Some(Ended::Good));
-    assert!(&rt; reader.reads >= LATE.last);
+fn a_broker_of_numbered_passes_takes_no_memory(rt: HostRuntime) -> Result<(), AllocError> {
+    serve(&rt, &numbered(rt.alloc())?, Some(2), Ended::Good);
     Ok(())
 }
 
-const HEADER: &str = "dine 2 64 256
-0 join -> joined 0.0
-0 join -> joined 1.1
-0 conflict 0.0 1.1 -> done
-";
+const HEADER: &str =
+    "dine 2 64 256\n0 join -> joined 0.0\n0 join -> joined 1.1\n0 conflict 0.0 1.1 -> done\n";
 
 // Two eat by turns, and nobody is overtaken.
-const TURN: &str = "0 hungry 0.0 -> done
-0 begin 0.0 -> done
-1 hungry 1.1 -> done
-1 begin 1.1 -> refused not-yet
-0 finish 0.0 -> done
-1 begin 1.1 -> done
-1 finish 1.1 -> done
-";
+const TURN: &str = "0 hungry 0.0 -> done\n0 begin 0.0 -> done\n1 hungry 1.1 -> done\n\
+    1 begin 1.1 -> refused not-yet\n0 finish 0.0 -> done\n1 begin 1.1 -> done\n1 finish 1.1 -> done\n";
 
 #[test]
 fn an_audit_under_way_takes_no_memory(rt: HostRuntime) -> Result<(), AllocError> {
     let text = text_of(rt.alloc(), HEADER, [(TURN, 4_000), ("", 0)])?;
-    let mut reader = reader_of(rt.alloc(), text.as_bytes(), LATE);
+    let mut reader = Counted::new(rt.alloc(), &text, LATE);
     let checked = check(rt.alloc(), &mut reader).ok();
     same(&rt, checked.map(|checked| checked.entries), Some(28_003));
-    assert!(&rt; reader.reads >= LATE.last);
+    assert!(&rt; reader.calls >= LATE.1);
     Ok(())
 }

@@ -2,26 +2,19 @@
 
 use super::{begins, ends};
 use crate::tests::same::same;
-use dine_words::{Call, Entry, Limits, MAX_ENTRY_LINE, Refusal, Reply, Task, put_text};
+use dine_words::{Entry, Limits, MAX_ENTRY_LINE, Task, put_text};
 use std::alloc::{AllocError, Global};
 use std::process::Abort;
-use tests_kit::{A, LIMITS};
-
-const TEXTS: [&[u8]; 4] = [
-    b"",
-    b"x",
-    b"hungry",
-    b"a text that is longer than the others",
-];
+use tests_kit::{A, Host, LIMITS};
 
 #[test]
 fn a_text_for_which_there_is_room_takes_no_memory(rt: HostRuntime) -> Result<(), AllocError> {
-    for text in TEXTS {
+    for text in ["", "x", "hungry", "a text that is longer than the others"] {
         let mut out = Vec::with_capacity(rt.alloc(), text.len())?;
         begins(rt.alloc());
-        put_text(&mut out, text);
+        put_text(&mut out, text.as_bytes());
         ends(rt.alloc());
-        same(&rt, out.as_slice(), text);
+        same(&rt, out.as_slice(), text.as_bytes());
     }
     Ok(())
 }
@@ -32,28 +25,18 @@ const LONG: Task = Task {
     born: u64::MAX,
 };
 
-const CALLS: [Call; 8] = [
-    Call::Join,
-    Call::Leave(LONG),
-    Call::Conflict(LONG, A),
-    Call::Separate(A, LONG),
-    Call::Hungry(A),
-    Call::Begin(LONG),
-    Call::Finish(A),
-    Call::Withdraw(LONG),
-];
+// Calls and replies with short parts and with the longest.
+const CALLS: &str = "join; leave 4294967295.18446744073709551615; \
+    conflict 4294967295.18446744073709551615 0.0; separate 0.0 4294967295.18446744073709551615; \
+    hungry 0.0; begin 4294967295.18446744073709551615; finish 0.0; \
+    withdraw 4294967295.18446744073709551615";
 
-const REPLIES: [Reply; 5] = [
-    Reply::Joined(LONG),
-    Reply::Done,
-    Reply::Refused(Refusal::NotYet),
-    Reply::Refused(Refusal::Full),
-    Reply::Refused(Refusal::BothEating),
-];
+const REPLIES: &str = "joined 4294967295.18446744073709551615; done; refused not-yet; \
+    refused full; refused both-eating";
 
-// Writes the lines of entries, of a reply and of a task that has joined, for each of which there is room.
-fn write_all(rt: &impl Abort, alloc: Global, entry: &Entry, out: &mut Vec<u8>) {
-    begins(alloc);
+// Writes the lines of an entry, of a reply and of a task that has joined, for each of which there is room.
+fn write_all(rt: &impl Host, entry: &Entry, out: &mut Vec<u8>) {
+    begins(rt.alloc());
     let lines = (
         entry.write_line_to(out),
         entry.write_to(out),
@@ -61,18 +44,26 @@ fn write_all(rt: &impl Abort, alloc: Global, entry: &Entry, out: &mut Vec<u8>) {
         LONG.write_joined_line(out),
         A.write_joined_line(out),
     );
-    ends(alloc);
+    ends(rt.alloc());
     same(rt, lines, (Ok(()), Ok(()), Ok(()), Ok(()), Ok(())));
+}
+
+fn entry(rt: &impl Host, pass: u32, call: &str, reply: &str) -> Entry {
+    let text = format!(in rt.alloc(); "{pass} {call} -> {reply}")
+        .ok()
+        .expect(rt, "memory");
+    Entry::read(&text).expect(rt, "an entry")
 }
 
 #[test]
 fn a_line_for_which_there_is_room_takes_no_memory(rt: HostRuntime) -> Result<(), AllocError> {
     let mut out = Vec::with_capacity(rt.alloc(), 6 * MAX_ENTRY_LINE)?;
-    for call in CALLS {
-        for reply in REPLIES {
+    for call in CALLS.split("; ") {
+        for reply in REPLIES.split("; ") {
             for pass in [0, u32::MAX] {
+                let entry = entry(&rt, pass, call, reply);
                 out.clear();
-                write_all(&rt, rt.alloc(), &Entry { pass, call, reply }, &mut out);
+                write_all(&rt, &entry, &mut out);
             }
         }
     }

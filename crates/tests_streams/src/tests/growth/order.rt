@@ -2,16 +2,14 @@
 //! ample, as those of `growth` are.
 
 use crate::tests::engine::Engine;
+use crate::tests::program::run_over;
 use crate::tests::same::same;
-use dine_cli::{
-    CliFault, CommandLine, Ended, NoFiles, NoGate, Print, Request, Seed, Silence, run_words,
-};
+use dine_cli::{CliFault, CommandLine, Ended, Print, Request, Silence};
 use std::alloc::{AllocError, Global};
 use tests_kit::{FailingReader, FailingWriter, JOURNAL, Machine, SCRIPT};
 
-const SCENARIO: &str = "setup = [\"join a\", \"join b\", \"conflict a b\"]
-worker = [{ steps = [\"eat a\"] }, { steps = [\"eat b\"] }]
-";
+const SCENARIO: &str = "setup = ['join a', 'join b', 'conflict a b']\n\
+    worker = [{ steps = ['eat a'] }, { steps = ['eat b'] }]\n";
 
 // So many bytes come at once, and so many reads succeed at most: fewer than any of the inputs takes.
 const PART: usize = 32;
@@ -38,8 +36,7 @@ fn answer_of(
     reads: u32,
 ) -> Result<Ended, CliFault> {
     let mut reader = FailingReader::new(input, part, reads);
-    let mut writer = FailingWriter::new(1024, MANY);
-    engine.run(rt, &mut reader, &mut writer)
+    engine.run(rt, &mut reader, &mut FailingWriter::new(1024, MANY))
 }
 
 #[test]
@@ -51,12 +48,6 @@ fn a_failed_read_is_told_first(rt: HostRuntime) {
         }
     }
 }
-
-const DRAWINGS: [&[&str]; 3] = [
-    &["hygienic", "chart"],
-    &["hygienic", "chart", "--trace"],
-    &["hygienic", "chart", "--dot"],
-];
 
 // Words that are read again if memory runs out.
 #[derive(Drop)]
@@ -72,29 +63,22 @@ impl CommandLine for ReadAgain {
     }
 }
 
-// The program draws a journal whose reads fail after so many: it writes that, and nothing else.
-fn check_drawing(rt: &impl Machine, words: &'static [&'static str], reads: u32) {
-    let mut reader = FailingReader::new(JOURNAL.as_bytes(), PART, reads);
-    let mut writer = FailingWriter::new(1024, MANY);
-    let status = run_words(
-        rt,
-        rt.alloc(),
-        ReadAgain { words },
-        &mut reader,
-        &mut writer,
-        &mut NoFiles { listener: Silence },
-        &NoGate,
-        Seed::fixed(),
-    );
-    same(rt, status, 3);
-    same(rt, writer.written(), b"fault read\n".as_slice());
-}
+const DRAWINGS: [&[&str]; 3] = [
+    &["hygienic", "chart"],
+    &["hygienic", "chart", "--trace"],
+    &["hygienic", "chart", "--dot"],
+];
 
 #[test]
 fn a_failed_read_of_what_is_drawn_is_told_first(rt: HostRuntime) {
     for words in &DRAWINGS {
         for reads in 0..=MOST_READS {
-            check_drawing(&rt, *words, reads);
+            let mut reader = FailingReader::new(JOURNAL.as_bytes(), PART, reads);
+            let mut writer = FailingWriter::new(1024, MANY);
+            let words = ReadAgain { words: *words };
+            let (status, _) = run_over(&rt, words, &mut reader, &mut writer, Silence);
+            same(&rt, status, 3);
+            same(&rt, writer.written(), b"fault read\n".as_slice());
         }
     }
 }
@@ -110,38 +94,27 @@ fn comment(alloc: Global) -> Result<Vec<u8>, AllocError> {
     vec![in alloc; b'#'; COMMENT_BYTES]
 }
 
-const COMMENTED: [Engine; 2] = [Engine::Script(Print::Replies), Engine::Race];
-
-fn check_comment(rt: &impl Machine, text: &[u8]) {
-    for engine in &COMMENTED {
-        for reads in ROOMY_READS..ROOMY_READS + 2 {
-            let ended = answer_of(rt, *engine, text, LARGE_PART, reads);
-            same(rt, ended, Err(CliFault::Read));
-        }
-    }
-}
-
 #[test]
 fn a_read_that_fails_where_room_grows_is_told_first(rt: HostRuntime) {
     let text = comment(rt.alloc()).or_else(|_| comment(rt.alloc()));
     let text = text.ok().expect(&rt, "one growth is refused at most");
-    check_comment(&rt, &text);
+    for engine in [Engine::Script(Print::Replies), Engine::Race] {
+        for reads in ROOMY_READS..ROOMY_READS + 2 {
+            let ended = answer_of(&rt, engine, &text, LARGE_PART, reads);
+            same(&rt, ended, Err(CliFault::Read));
+        }
+    }
 }
 
 // The second line is wrong.
-const WRONG: &str = "dine 2 64 256
-0 begin 0.0 -> done
-0 join -> joined 0.0
-0 hungry 0.0 -> done
-0 begin 0.0 -> done
-0 finish 0.0 -> done
-";
+const WRONG: &[u8] = b"dine 2 64 256\n0 begin 0.0 -> done\n0 join -> joined 0.0\n\
+    0 hungry 0.0 -> done\n0 begin 0.0 -> done\n0 finish 0.0 -> done\n";
 
 // A long audit has its answer at the wrong line, and reads on only where memory runs out.
 #[test]
 fn a_long_audit_tells_a_failed_read_behind_its_answer_first(rt: HostRuntime) {
     for reads in 0..=MOST_READS {
-        let ended = answer_of(&rt, Engine::LongAudit, WRONG.as_bytes(), PART, reads);
+        let ended = answer_of(&rt, Engine::LongAudit, WRONG, PART, reads);
         if ended != Err(CliFault::Read) {
             same(&rt, ended, Ok(Ended::Wrong));
         }

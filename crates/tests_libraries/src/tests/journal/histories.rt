@@ -1,0 +1,228 @@
+//! Worked histories: a plain table and an arbiter answer alike, a journal keeps the entries, and who overtakes whom.
+
+use super::{hall_after, is_audited, text_of};
+use crate::tests::same::{same, same_at};
+use dine_arbiter::Arbiter;
+use dine_journal::{Journal, PlainTable, most_overtakes, overtakes};
+use dine_replay::{Checked, check};
+use dine_words::{Entry, Limits, Marked, State, Task};
+use std::alloc::Global;
+use std::process::Abort;
+use tests_kit::{A, B, C, Host, LIMITS, RING, TURNS};
+
+const NOBODY: Task = Task { slot: 5, born: 5 };
+
+// A task, another, and how often the first is overtaken by the other at most.
+type Pair = (Task, Task, u64);
+
+// What a row shows, the entries of the calls, the most that any task is overtaken by another, and pairs of tasks.
+type Row = (&'static str, &'static str, u64, &'static [Pair]);
+
+const ROWS: [Row; 11] = [
+    ("two eat by turns", TURNS, 0, &[(A, B, 0), (B, A, 0)]),
+    (
+        "five round a table are hungry",
+        RING,
+        1,
+        &[(B, A, 1), (C, A, 0)],
+    ),
+    (
+        "the sooner meal wins, and not the sooner hunger",
+        "0 join -> joined 0.0; 0 join -> joined 1.1; 0 conflict 0.0 1.1 -> done; \
+        0 hungry 1.1 -> done; 0 hungry 0.0 -> done; 0 begin 1.1 -> refused not-yet; \
+        0 begin 0.0 -> done",
+        1,
+        &[(B, A, 1)],
+    ),
+    (
+        "a task begins beside a thinking neighbour",
+        "0 join -> joined 0.0; 0 join -> joined 1.1; 0 conflict 0.0 1.1 -> done; \
+        0 hungry 1.1 -> done; 0 begin 1.1 -> done",
+        0,
+        &[],
+    ),
+    (
+        "two eaters get no conflict",
+        "0 join -> joined 0.0; 0 join -> joined 1.1; 0 join -> joined 2.2; \
+        0 conflict 0.0 1.1 -> done; 0 conflict 1.1 2.2 -> done; 0 hungry 0.0 -> done; \
+        0 begin 0.0 -> done; 0 hungry 2.2 -> done; 0 begin 2.2 -> done; \
+        0 conflict 0.0 2.2 -> refused both-eating",
+        0,
+        &[],
+    ),
+    (
+        "a meal is placed by its end",
+        "0 join -> joined 0.0; 0 join -> joined 1.1; 0 hungry 0.0 -> done; 0 begin 0.0 -> done; \
+        0 hungry 1.1 -> done; 0 begin 1.1 -> done; 0 finish 1.1 -> done; \
+        0 conflict 0.0 1.1 -> done; 0 hungry 1.1 -> done; 0 begin 1.1 -> refused not-yet; \
+        0 finish 0.0 -> done; 0 hungry 0.0 -> done; 0 begin 0.0 -> refused not-yet; \
+        0 begin 1.1 -> done",
+        1,
+        &[(A, B, 1), (B, A, 0)],
+    ),
+    (
+        "who withdraws lets the neighbour eat",
+        "0 join -> joined 0.0; 0 join -> joined 1.1; 0 conflict 0.0 1.1 -> done; \
+        0 hungry 0.0 -> done; 0 hungry 1.1 -> done; 0 withdraw 0.0 -> done; 0 begin 1.1 -> done; \
+        0 hungry 0.0 -> done; 0 begin 0.0 -> refused not-yet; 0 finish 1.1 -> done; \
+        0 begin 0.0 -> done",
+        0,
+        &[(A, B, 0)],
+    ),
+    (
+        "a hungry task is overtaken once: A begins beside B's hunger, and then B in the next of A",
+        "0 join -> joined 0.0; 0 join -> joined 1.1; 0 conflict 0.0 1.1 -> done; \
+        0 hungry 1.1 -> done; 0 hungry 0.0 -> done; 0 begin 0.0 -> done; 0 finish 0.0 -> done; \
+        0 hungry 0.0 -> done; 0 begin 0.0 -> refused not-yet; 0 begin 1.1 -> done",
+        1,
+        &OF_ALL,
+    ),
+    (
+        "A begins beside B's hunger, before the two are in conflict",
+        "0 join -> joined 0.0; 0 join -> joined 1.1; 0 hungry 1.1 -> done; 0 hungry 0.0 -> done; \
+        0 begin 0.0 -> done; 0 finish 0.0 -> done; 0 conflict 0.0 1.1 -> done; \
+        0 hungry 0.0 -> done; 0 begin 0.0 -> refused not-yet",
+        0,
+        &[(B, A, 0)],
+    ),
+    (
+        "C begins beside B's hunger, and then A, which alone is in conflict with B",
+        "0 join -> joined 0.0; 0 join -> joined 1.1; 0 join -> joined 2.2; \
+        0 conflict 0.0 1.1 -> done; 0 hungry 1.1 -> done; 0 hungry 2.2 -> done; \
+        0 begin 2.2 -> done; 0 hungry 0.0 -> done; 0 begin 0.0 -> done; 0 finish 0.0 -> done",
+        1,
+        &[(B, C, 0), (B, A, 1)],
+    ),
+    (
+        "A begins beside the hunger that B gives up then, and again after that",
+        "0 join -> joined 0.0; 0 join -> joined 1.1; 0 conflict 0.0 1.1 -> done; \
+        0 hungry 1.1 -> done; 0 hungry 0.0 -> done; 0 begin 0.0 -> done; 0 finish 0.0 -> done; \
+        0 withdraw 1.1 -> done; 0 hungry 0.0 -> done; 0 begin 0.0 -> done",
+        1,
+        &[(B, A, 1), (A, B, 0)],
+    ),
+];
+
+const OF_ALL: [Pair; 6] = [
+    (B, A, 1),
+    (A, B, 1),
+    (A, A, 0),
+    (B, B, 0),
+    (NOBODY, A, 0),
+    (A, NOBODY, 0),
+];
+
+const BOTH_ARE_HUNGRY: &str = "0 join -> joined 0.0; 0 join -> joined 1.1; \
+    0 conflict 0.0 1.1 -> done; 0 hungry 1.1 -> done; 0 hungry 0.0 -> done";
+
+// Makes the call of an entry at a table and at an arbiter: both answer as the entry says.
+fn makes(rt: &impl Abort, table: &mut PlainTable, arbiter: &mut Arbiter, text: &str) {
+    let Entry { call, reply, .. } = Entry::read(text).expect(rt, "an entry");
+    assert!(rt; table.clock() < u64::MAX && arbiter.clock() < u64::MAX);
+    same_at(rt, text, table.apply(call), Ok(reply));
+    same_at(rt, text, arbiter.apply(call), reply);
+}
+
+// A table that has made the calls of the entries, and an arbiter beside it.
+fn plays(rt: &impl Host, limits: Limits, entries: &str) -> PlainTable {
+    let mut table = PlainTable::new(rt.alloc(), limits);
+    let mut arbiter = Arbiter::new(rt.alloc(), limits).ok().expect(rt, "memory");
+    for text in entries.split("; ") {
+        if !text.is_empty() {
+            makes(rt, &mut table, &mut arbiter, text);
+        }
+    }
+    table
+}
+
+// Entries at small limits.
+const AT_SMALL_LIMITS: [(Limits, &str); 2] = [
+    (
+        Limits {
+            tasks: 2,
+            conflicts: 1,
+        },
+        "0 join -> joined 0.0; 0 join -> joined 1.1; 0 join -> refused full; \
+        0 separate 0.0 1.1 -> refused apart; 0 conflict 0.0 1.1 -> done; \
+        0 conflict 1.1 0.0 -> refused already; 0 conflict 1.1 1.1 -> refused same; \
+        0 hungry 2.2 -> refused unknown; 0 begin 0.0 -> refused thinking; 0 leave 0.0 -> done; \
+        0 join -> joined 0.2; 0 hungry 0.0 -> refused unknown; 0 conflict 0.2 1.1 -> done; \
+        0 separate 1.1 0.2 -> done",
+    ),
+    (
+        Limits {
+            tasks: 3,
+            conflicts: 1,
+        },
+        "0 join -> joined 0.0; 0 join -> joined 1.1; 0 join -> joined 2.2; \
+        0 conflict 0.0 1.1 -> done; 0 conflict 0.0 2.2 -> refused no-room",
+    ),
+];
+
+#[test]
+fn table_and_arbiter_answer_as_wanted(rt: HostRuntime) {
+    for (_, entries, ..) in &ROWS {
+        plays(&rt, LIMITS, entries);
+    }
+    for (limits, entries) in &AT_SMALL_LIMITS {
+        plays(&rt, *limits, entries);
+    }
+}
+
+// A task, its state, whether it is ready, and its neighbours.
+type Told = (Task, Option<State>, bool, Option<&'static [Task]>);
+
+const TOLD: [Told; 3] = [
+    (A, Some(State::Hungry), true, Some(&[B])),
+    (B, Some(State::Hungry), false, Some(&[A])),
+    (C, None, false, None),
+];
+
+#[test]
+fn the_table_tells_what_it_holds(rt: HostRuntime) {
+    let table = plays(&rt, LIMITS, BOTH_ARE_HUNGRY);
+    same(&rt, (table.limits(), table.clock()), (LIMITS, 2));
+    same(&rt, table.next_ready(), Some(A));
+    for (task, state, is_ready, beside) in &TOLD {
+        same(
+            &rt,
+            (table.state(*task), table.is_ready(*task)),
+            (*state, *is_ready),
+        );
+        let found = table
+            .neighbours(rt.alloc(), *task)
+            .ok()
+            .expect(&rt, "memory");
+        same(&rt, found.as_deref(), *beside);
+    }
+}
+
+// The same is found in the journal and in its text.
+fn has_most(rt: &impl Host, name: &str, journal: &Journal, most: u64) {
+    same_at(rt, name, most_overtakes(rt.alloc(), journal), Ok(most));
+    let text = text_of(rt, journal);
+    let wanted = Checked {
+        entries: journal.len(),
+        most_overtakes: most,
+    };
+    let checked = check(rt.alloc(), &mut Marked::new(text.as_slice()));
+    same_at(rt, name, checked, Ok(wanted));
+}
+
+fn check_row(rt: &impl Host, row: &Row) {
+    let (name, entries, most, pairs) = *row;
+    let journal = hall_after(rt, entries).into_journal();
+    is_audited(rt, &journal);
+    has_most(rt, name, &journal, most);
+    for (task, other, wanted) in pairs {
+        let found = overtakes(rt.alloc(), &journal, *task, *other);
+        same_at(rt, name, found, Ok(*wanted));
+    }
+}
+
+#[test]
+fn a_task_is_overtaken_by_who_begins_beside_its_hunger(rt: HostRuntime) {
+    for row in &ROWS {
+        check_row(&rt, row);
+    }
+}

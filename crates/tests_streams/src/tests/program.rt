@@ -1,0 +1,29 @@
+//! The program over streams.
+
+use dine_cli::{CommandLine, Listener, NoFiles, NoGate, Seed, run_words};
+use dine_words::{Sink, Source};
+use tests_kit::Machine;
+
+/// Runs the program over these streams, tells whoever listens what is wrong, and answers the status.
+pub fn run_over<C: CommandLine, R: Source, W: Sink, L: Listener>(
+    rt: &impl Machine,
+    words: C,
+    reader: &mut R,
+    writer: &mut W,
+    listener: L,
+) -> (u8, L) {
+    let mut host = NoFiles { listener };
+    let seed = Seed::fixed();
+    let status = run_words(
+        rt,
+        rt.alloc(),
+        words,
+        reader,
+        writer,
+        &mut host,
+        &NoGate,
+        seed,
+    );
+    let NoFiles { listener } = host;
+    (status, listener)
+}
