@@ -69,9 +69,19 @@ const CASES: [Case; 5] = [
     ),
 ];
 
+// An entry, and the number of messages behind it, of which there are none where no number is.
+fn entry_of(rt: &impl Abort, text: &str) -> (Entry, Option<u32>) {
+    let (entry, messages) = text.split_once(" (").unwrap_or((text, "0)"));
+    let messages = messages.strip_suffix(")").unwrap_or("");
+    (
+        Entry::read(entry).expect(rt, "an entry"),
+        messages.parse().ok(),
+    )
+}
+
 // Makes the call of an entry, which gets this place and the entry's reply, and is there in the history.
 fn writes(rt: &impl Abort, hall: &mut Hall, place: usize, text: &str) {
-    let entry = Entry::read(text).expect(rt, "an entry");
+    let (entry, _) = entry_of(rt, text);
     let Entry { pass, call, reply } = entry;
     same_at(rt, text, hall.reply_to(call), reply);
     let answer = Answer {

@@ -23,31 +23,18 @@ const NAMED: usize = 9;
 
 const NOBODY: Task = Task { slot: 5, born: 0 };
 
-// The tasks that joined, each with the stamp of its last meal or of its joining.
-#[derive(Drop)]
-struct Meals {
-    stamps: Vec<(Task, u64)>,
+// The tasks that joined, each with the stamp of its last meal or of its joining, the latest last.
+type Meals = Vec<(Task, u64)>;
+
+fn stamp(meals: &Meals, task: Task) -> Option<u64> {
+    meals.iter().find(|meal| meal.0 == task).map(|meal| meal.1)
 }
 
-impl Meals {
-    fn stamp(&self, task: Task) -> Option<u64> {
-        let mut meals = self.stamps.iter();
-        meals.find(|meal| meal.0 == task).map(|meal| meal.1)
-    }
-
-    // A task ate, or joined, at this moment.
-    fn place(&mut self, rt: &impl Abort, task: Task, clock: u64) {
-        self.stamps.retain(|meal| meal.0 != task);
-        self.stamps.push((task, clock)).expect(rt, "memory");
-    }
-
-    // One of the tasks that joined last.
-    fn draw(&self, draw: &mut Draw) -> Task {
-        let back = draw.below(NAMED);
-        match self.stamps.iter().rev().nth(back) {
-            Some(meal) => meal.0,
-            None => NOBODY,
-        }
+// One of the tasks that joined last.
+fn draw_task(draw: &mut Draw, meals: &Meals) -> Task {
+    match meals.iter().rev().nth(draw.below(NAMED)) {
+        Some(meal) => meal.0,
+        None => NOBODY,
     }
 }
 
@@ -57,7 +44,7 @@ fn is_sooner(table: &PlainTable, meals: &Meals, first: Task, second: Task) -> bo
     let second_eats = table.state(second) == Some(Eating);
     match (first_eats, second_eats) {
         (false, true) => true,
-        (false, false) => meals.stamp(first) < meals.stamp(second),
+        (false, false) => stamp(meals, first) < stamp(meals, second),
         _ => false,
     }
 }
@@ -176,7 +163,8 @@ fn make_call(rt: &impl Host, sides: &mut Sides, call: Call, turn: u32) -> Reply 
     table_answers(rt, &mut sides.table, call, wanted.0, turn);
     match (call, wanted.0) {
         (_, Reply::Joined(task)) | (Call::Finish(task), Reply::Done) => {
-            sides.meals.place(rt, task, clock);
+            sides.meals.retain(|meal| meal.0 != task);
+            sides.meals.push((task, clock)).expect(rt, "memory");
         }
         _ => {}
     }
@@ -187,7 +175,7 @@ fn make_call(rt: &impl Host, sides: &mut Sides, call: Call, turn: u32) -> Reply 
 fn check_questions(rt: &impl Abort, sides: &Sides, turn: u32) {
     let (arbiter, table) = (&sides.arbiter, &sides.table);
     same_at(rt, turn, arbiter.next_ready(), table.next_ready());
-    for (task, _) in sides.meals.stamps.iter().rev().take(NAMED) {
+    for (task, _) in sides.meals.iter().rev().take(NAMED) {
         same_at(rt, turn, arbiter.state(*task), table.state(*task));
         same_at(rt, turn, arbiter.is_ready(*task), table.is_ready(*task));
     }
@@ -199,15 +187,13 @@ fn the_arbiter_answers_drawn_calls_as_the_plain_table(rt: HostRuntime) {
     let mut sides = Sides {
         arbiter: Arbiter::new(rt.alloc(), LIMITS).ok().expect(&rt, "memory"),
         table: PlainTable::new(rt.alloc(), LIMITS),
-        meals: Meals {
-            stamps: Vec::new(rt.alloc()),
-        },
+        meals: Vec::new(rt.alloc()),
     };
     let mut draw = Draw { state: 1989 };
     let mut counts: [u32; 11] = [0; 11];
     for turn in 0..CALLS {
-        let first = sides.meals.draw(&mut draw);
-        let second = sides.meals.draw(&mut draw);
+        let first = draw_task(&mut draw, &sides.meals);
+        let second = draw_task(&mut draw, &sides.meals);
         let call = draw_call(&mut draw, first, second);
         let reply = make_call(&rt, &mut sides, call, turn);
         check_questions(&rt, &sides, turn);

@@ -228,34 +228,26 @@ fn a_gate_is_told_of_each_step(rt: HostRuntime) {
 // Two workers in conflict, each of whom joins a task in the second scenario. The first one's meal is three steps of its own,
 // of which the last has this number, and the other's is its first step. The journal is that of a second worker that begins
 // after the first one's meal.
-#[derive(Clone, Copy)]
-struct Rivals {
-    scenario: &'static [u8],
-    finish: u64,
-    journal: &'static str,
-}
+type Rivals = (&'static [u8], u64, &'static str);
 
 const RIVALS: [Rivals; 2] = [
-    Rivals {
-        scenario: b"setup = ['join a', 'join b', 'conflict a b']\n\
-            [[worker]]\nsteps = ['hungry a', 'begin a', 'finish a']\n\
-            [[worker]]\nsteps = ['eat b']\n",
-        finish: 2,
-        journal: "dine 2 64 256\n0 join -> joined 0.0\n0 join -> joined 1.1\n\
-            0 conflict 0.0 1.1 -> done\n0 hungry 0.0 -> done\n0 begin 0.0 -> done\n\
-            0 finish 0.0 -> done\n1 hungry 1.1 -> done\n1 begin 1.1 -> done\n\
-            1 finish 1.1 -> done\n",
-    },
-    Rivals {
-        scenario: b"setup = ['join a', 'join b', 'conflict a b']\n\
-            [[worker]]\nsteps = ['join c', 'hungry a', 'begin a', 'finish a']\n\
-            [[worker]]\nsteps = ['eat b', 'join d']\n",
-        finish: 3,
-        journal: "dine 2 64 256\n0 join -> joined 0.0\n0 join -> joined 1.1\n\
-            0 conflict 0.0 1.1 -> done\n0 join -> joined 2.2\n0 hungry 0.0 -> done\n\
-            0 begin 0.0 -> done\n0 finish 0.0 -> done\n1 hungry 1.1 -> done\n\
-            1 begin 1.1 -> done\n1 finish 1.1 -> done\n1 join -> joined 3.5\n",
-    },
+    (
+        b"setup = ['join a', 'join b', 'conflict a b']\n\
+        [[worker]]\nsteps = ['hungry a', 'begin a', 'finish a']\n[[worker]]\nsteps = ['eat b']\n",
+        2,
+        "dine 2 64 256\n0 join -> joined 0.0\n0 join -> joined 1.1\n0 conflict 0.0 1.1 -> done\n\
+        0 hungry 0.0 -> done\n0 begin 0.0 -> done\n0 finish 0.0 -> done\n1 hungry 1.1 -> done\n\
+        1 begin 1.1 -> done\n1 finish 1.1 -> done\n",
+    ),
+    (
+        b"setup = ['join a', 'join b', 'conflict a b']\n\
+        [[worker]]\nsteps = ['join c', 'hungry a', 'begin a', 'finish a']\n\
+        [[worker]]\nsteps = ['eat b', 'join d']\n",
+        3,
+        "dine 2 64 256\n0 join -> joined 0.0\n0 join -> joined 1.1\n0 conflict 0.0 1.1 -> done\n\
+        0 join -> joined 2.2\n0 hungry 0.0 -> done\n0 begin 0.0 -> done\n0 finish 0.0 -> done\n\
+        1 hungry 1.1 -> done\n1 begin 1.1 -> done\n1 finish 1.1 -> done\n1 join -> joined 3.5\n",
+    ),
 ];
 
 // Lets the second worker begin its step once the first one's meal has ended, or once it has begun; then the end of the meal
@@ -320,19 +312,19 @@ impl Gate for AtTheMeal {
 // A step is done behind the call before it and ahead of the call after it, as the journal shows.
 #[test]
 fn a_held_step_makes_no_call(rt: HostRuntime) {
-    for rivals in &RIVALS {
-        let gate = AtTheMeal::new(true, rivals.finish);
-        let journal = gated(&rt, rivals.scenario, &gate, Print::Journal);
-        same(&rt, journal.as_slice(), rivals.journal.as_bytes());
+    for (scenario, finish, wanted) in &RIVALS {
+        let gate = AtTheMeal::new(true, *finish);
+        let journal = gated(&rt, scenario, &gate, Print::Journal);
+        same(&rt, journal.as_slice(), wanted.as_bytes());
     }
 }
 
 // A step that waits for a meal has begun before the meal ends, and has not ended.
 #[test]
 fn a_step_that_waits_is_told_as_begun(rt: HostRuntime) {
-    for rivals in &RIVALS {
-        let gate = AtTheMeal::new(false, rivals.finish);
-        gated(&rt, rivals.scenario, &gate, Print::Replies);
+    for (scenario, finish, _) in &RIVALS {
+        let gate = AtTheMeal::new(false, *finish);
+        gated(&rt, scenario, &gate, Print::Replies);
         let begins = gate.begins_in_time.load(Ordering::SeqCst);
         let ends = gate.ends_in_time.load(Ordering::SeqCst);
         same(&rt, (begins, ends), (true, false));

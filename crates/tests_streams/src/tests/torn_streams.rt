@@ -15,33 +15,24 @@ const REPORT: &str = "workers 1\ncalls 10\nsettled\n";
 
 const VERDICT: &str = "legal 9\novertakes 0\n";
 
+const TO_REPLIES: Engine = Engine::Script(Print::Replies);
+
 const TO_JOURNAL: Engine = Engine::Script(Print::Journal);
 
 // An engine, the words that the program is given for it, an input of it, and the output.
 type Row = (Engine, &'static [&'static str], &'static str, &'static str);
 
 const ROWS: [Row; 5] = [
-    (
-        Engine::Script(Print::Replies),
-        &["hygienic", "run"],
-        SCRIPT,
-        REPLIES,
-    ),
-    (
-        TO_JOURNAL,
-        &["hygienic", "run", "--journal"],
-        SCRIPT,
-        JOURNAL,
-    ),
+    (TO_REPLIES, &["hygienic", "run"], SCRIPT, REPLIES),
+    (TO_JOURNAL, &WITH_JOURNAL, SCRIPT, JOURNAL),
     (Engine::Audit, &["hygienic", "audit"], JOURNAL, VERDICT),
-    (
-        Engine::LongAudit,
-        &["hygienic", "audit", "--long"],
-        JOURNAL,
-        VERDICT,
-    ),
+    (Engine::LongAudit, &LONG_AUDIT, JOURNAL, VERDICT),
     (Engine::Race, &["hygienic", "race"], SCENARIO, REPORT),
 ];
+
+const WITH_JOURNAL: [&str; 3] = ["hygienic", "run", "--journal"];
+
+const LONG_AUDIT: [&str; 3] = ["hygienic", "audit", "--long"];
 
 // More reads or writes than any of the runs makes.
 const MANY: u32 = 1000;

@@ -1,6 +1,6 @@
 //! Worked histories: a plain table and an arbiter answer alike, a journal keeps the entries, and who overtakes whom.
 
-use super::{hall_after, is_audited, text_of};
+use super::{entry_of, hall_after, is_audited, text_of};
 use crate::tests::same::{same, same_at};
 use dine_arbiter::Arbiter;
 use dine_journal::{Journal, PlainTable, most_overtakes, overtakes};
@@ -8,28 +8,39 @@ use dine_replay::{Checked, check};
 use dine_words::{Entry, Limits, Marked, State, Task};
 use std::alloc::Global;
 use std::process::Abort;
-use tests_kit::{A, B, C, Host, LIMITS, RING, TURNS};
+use tests_kit::{A, B, C, Host, LIMITS};
 
 const NOBODY: Task = Task { slot: 5, born: 5 };
 
 // A task, another, and how often the first is overtaken by the other at most.
 type Pair = (Task, Task, u64);
 
-// What a row shows, the entries of the calls, the most that any task is overtaken by another, and pairs of tasks.
+// What a row shows; the entries of the calls, those with messages having their number behind them; the most that any task is overtaken by another, and pairs of tasks.
 type Row = (&'static str, &'static str, u64, &'static [Pair]);
 
-const ROWS: [Row; 11] = [
-    ("two eat by turns", TURNS, 0, &[(A, B, 0), (B, A, 0)]),
+const ROWS: [Row; 13] = [
+    (
+        "two eat by turns",
+        "0 join -> joined 0.0; 0 join -> joined 1.1; 0 conflict 0.0 1.1 -> done; \
+        0 hungry 0.0 -> done (2); 0 begin 0.0 -> done; 0 hungry 1.1 -> done (1); \
+        0 begin 1.1 -> refused not-yet; 0 finish 0.0 -> done (1); 0 begin 1.1 -> done",
+        0,
+        &[(A, B, 0), (B, A, 0)],
+    ),
     (
         "five round a table are hungry",
-        RING,
+        "0 join -> joined 0.0; 0 join -> joined 1.1; 0 join -> joined 2.2; 0 join -> joined 3.3; \
+        0 join -> joined 4.4; 0 conflict 0.0 1.1 -> done; 0 conflict 1.1 2.2 -> done; \
+        0 conflict 2.2 3.3 -> done; 0 conflict 3.3 4.4 -> done; 0 conflict 4.4 0.0 -> done; \
+        0 hungry 0.0 -> done (4); 0 hungry 1.1 -> done (3); 0 hungry 2.2 -> done (3); \
+        0 hungry 3.3 -> done (3); 0 hungry 4.4 -> done (2); 0 begin 0.0 -> done",
         1,
         &[(B, A, 1), (C, A, 0)],
     ),
     (
         "the sooner meal wins, and not the sooner hunger",
         "0 join -> joined 0.0; 0 join -> joined 1.1; 0 conflict 0.0 1.1 -> done; \
-        0 hungry 1.1 -> done; 0 hungry 0.0 -> done; 0 begin 1.1 -> refused not-yet; \
+        0 hungry 1.1 -> done; 0 hungry 0.0 -> done (3); 0 begin 1.1 -> refused not-yet; \
         0 begin 0.0 -> done",
         1,
         &[(B, A, 1)],
@@ -44,7 +55,7 @@ const ROWS: [Row; 11] = [
     (
         "two eaters get no conflict",
         "0 join -> joined 0.0; 0 join -> joined 1.1; 0 join -> joined 2.2; \
-        0 conflict 0.0 1.1 -> done; 0 conflict 1.1 2.2 -> done; 0 hungry 0.0 -> done; \
+        0 conflict 0.0 1.1 -> done; 0 conflict 1.1 2.2 -> done; 0 hungry 0.0 -> done (2); \
         0 begin 0.0 -> done; 0 hungry 2.2 -> done; 0 begin 2.2 -> done; \
         0 conflict 0.0 2.2 -> refused both-eating",
         0,
@@ -54,8 +65,8 @@ const ROWS: [Row; 11] = [
         "a meal is placed by its end",
         "0 join -> joined 0.0; 0 join -> joined 1.1; 0 hungry 0.0 -> done; 0 begin 0.0 -> done; \
         0 hungry 1.1 -> done; 0 begin 1.1 -> done; 0 finish 1.1 -> done; \
-        0 conflict 0.0 1.1 -> done; 0 hungry 1.1 -> done; 0 begin 1.1 -> refused not-yet; \
-        0 finish 0.0 -> done; 0 hungry 0.0 -> done; 0 begin 0.0 -> refused not-yet; \
+        0 conflict 0.0 1.1 -> done; 0 hungry 1.1 -> done (1); 0 begin 1.1 -> refused not-yet; \
+        0 finish 0.0 -> done (1); 0 hungry 0.0 -> done (1); 0 begin 0.0 -> refused not-yet; \
         0 begin 1.1 -> done",
         1,
         &[(A, B, 1), (B, A, 0)],
@@ -63,25 +74,26 @@ const ROWS: [Row; 11] = [
     (
         "who withdraws lets the neighbour eat",
         "0 join -> joined 0.0; 0 join -> joined 1.1; 0 conflict 0.0 1.1 -> done; \
-        0 hungry 0.0 -> done; 0 hungry 1.1 -> done; 0 withdraw 0.0 -> done; 0 begin 1.1 -> done; \
-        0 hungry 0.0 -> done; 0 begin 0.0 -> refused not-yet; 0 finish 1.1 -> done; \
-        0 begin 0.0 -> done",
+        0 hungry 0.0 -> done (2); 0 hungry 1.1 -> done (1); 0 withdraw 0.0 -> done (1); \
+        0 begin 1.1 -> done; 0 hungry 0.0 -> done (1); 0 begin 0.0 -> refused not-yet; \
+        0 finish 1.1 -> done (1); 0 begin 0.0 -> done",
         0,
         &[(A, B, 0)],
     ),
     (
         "a hungry task is overtaken once: A begins beside B's hunger, and then B in the next of A",
         "0 join -> joined 0.0; 0 join -> joined 1.1; 0 conflict 0.0 1.1 -> done; \
-        0 hungry 1.1 -> done; 0 hungry 0.0 -> done; 0 begin 0.0 -> done; 0 finish 0.0 -> done; \
-        0 hungry 0.0 -> done; 0 begin 0.0 -> refused not-yet; 0 begin 1.1 -> done",
+        0 hungry 1.1 -> done; 0 hungry 0.0 -> done (3); 0 begin 0.0 -> done; \
+        0 finish 0.0 -> done (1); 0 hungry 0.0 -> done (1); 0 begin 0.0 -> refused not-yet; \
+        0 begin 1.1 -> done",
         1,
         &OF_ALL,
     ),
     (
         "A begins beside B's hunger, before the two are in conflict",
         "0 join -> joined 0.0; 0 join -> joined 1.1; 0 hungry 1.1 -> done; 0 hungry 0.0 -> done; \
-        0 begin 0.0 -> done; 0 finish 0.0 -> done; 0 conflict 0.0 1.1 -> done; \
-        0 hungry 0.0 -> done; 0 begin 0.0 -> refused not-yet",
+        0 begin 0.0 -> done; 0 finish 0.0 -> done; 0 conflict 0.0 1.1 -> done (2); \
+        0 hungry 0.0 -> done (1); 0 begin 0.0 -> refused not-yet",
         0,
         &[(B, A, 0)],
     ),
@@ -89,17 +101,38 @@ const ROWS: [Row; 11] = [
         "C begins beside B's hunger, and then A, which alone is in conflict with B",
         "0 join -> joined 0.0; 0 join -> joined 1.1; 0 join -> joined 2.2; \
         0 conflict 0.0 1.1 -> done; 0 hungry 1.1 -> done; 0 hungry 2.2 -> done; \
-        0 begin 2.2 -> done; 0 hungry 0.0 -> done; 0 begin 0.0 -> done; 0 finish 0.0 -> done",
+        0 begin 2.2 -> done; 0 hungry 0.0 -> done (3); 0 begin 0.0 -> done; \
+        0 finish 0.0 -> done (1)",
         1,
         &[(B, C, 0), (B, A, 1)],
     ),
     (
         "A begins beside the hunger that B gives up then, and again after that",
         "0 join -> joined 0.0; 0 join -> joined 1.1; 0 conflict 0.0 1.1 -> done; \
-        0 hungry 1.1 -> done; 0 hungry 0.0 -> done; 0 begin 0.0 -> done; 0 finish 0.0 -> done; \
-        0 withdraw 1.1 -> done; 0 hungry 0.0 -> done; 0 begin 0.0 -> done",
+        0 hungry 1.1 -> done; 0 hungry 0.0 -> done (3); 0 begin 0.0 -> done; \
+        0 finish 0.0 -> done (1); 0 withdraw 1.1 -> done (2); 0 hungry 0.0 -> done; \
+        0 begin 0.0 -> done",
         1,
         &[(B, A, 1), (A, B, 0)],
+    ),
+    (
+        "a meal that ends sends forks to hungry neighbours alone",
+        "0 join -> joined 0.0; 0 join -> joined 1.1; 0 join -> joined 2.2; \
+        0 conflict 0.0 1.1 -> done; 0 hungry 0.0 -> done (2); 0 begin 0.0 -> done; \
+        0 finish 0.0 -> done; 0 hungry 2.2 -> done; 0 hungry 0.0 -> done; 0 begin 0.0 -> done; \
+        0 finish 0.0 -> done; 0 hungry 0.0 -> done; 0 begin 0.0 -> done; \
+        0 hungry 1.1 -> done (1); 0 finish 0.0 -> done (1); 0 begin 1.1 -> done; \
+        0 finish 1.1 -> done; 0 begin 2.2 -> done; 0 finish 2.2 -> done",
+        0,
+        &[],
+    ),
+    (
+        "a task withdraws beside a thinker and beside an eater",
+        "0 join -> joined 0.0; 0 join -> joined 1.1; 0 conflict 0.0 1.1 -> done; \
+        0 hungry 0.0 -> done (2); 0 withdraw 0.0 -> done (2); 0 hungry 0.0 -> done (2); \
+        0 begin 0.0 -> done; 0 hungry 1.1 -> done (1); 0 withdraw 1.1 -> done (1)",
+        0,
+        &[],
     ),
 ];
 
@@ -112,15 +145,18 @@ const OF_ALL: [Pair; 6] = [
     (A, NOBODY, 0),
 ];
 
-const BOTH_ARE_HUNGRY: &str = "0 join -> joined 0.0; 0 join -> joined 1.1; \
-    0 conflict 0.0 1.1 -> done; 0 hungry 1.1 -> done; 0 hungry 0.0 -> done";
+const BOTH_ARE_HUNGRY: &str =
+    "0 join -> joined 0.0; 0 join -> joined 1.1; 0 conflict 0.0 1.1 -> done; \
+    0 hungry 1.1 -> done; 0 hungry 0.0 -> done (3)";
 
-// Makes the call of an entry at a table and at an arbiter: both answer as the entry says.
+// Makes the call of an entry at a table and at an arbiter: both answer as the entry says, with its messages.
 fn makes(rt: &impl Abort, table: &mut PlainTable, arbiter: &mut Arbiter, text: &str) {
-    let Entry { call, reply, .. } = Entry::read(text).expect(rt, "an entry");
+    let (Entry { call, reply, .. }, messages) = entry_of(rt, text);
     assert!(rt; table.clock() < u64::MAX && arbiter.clock() < u64::MAX);
     same_at(rt, text, table.apply(call), Ok(reply));
+    same_at(rt, text, arbiter.reply_to(call), reply);
     same_at(rt, text, arbiter.apply(call), reply);
+    same_at(rt, text, Some(arbiter.messages()), messages);
 }
 
 // A table that has made the calls of the entries, and an arbiter beside it.
@@ -136,7 +172,7 @@ fn plays(rt: &impl Host, limits: Limits, entries: &str) -> PlainTable {
 }
 
 // Entries at small limits.
-const AT_SMALL_LIMITS: [(Limits, &str); 2] = [
+const AT_SMALL_LIMITS: [(Limits, &str); 3] = [
     (
         Limits {
             tasks: 2,
@@ -156,6 +192,18 @@ const AT_SMALL_LIMITS: [(Limits, &str); 2] = [
         },
         "0 join -> joined 0.0; 0 join -> joined 1.1; 0 join -> joined 2.2; \
         0 conflict 0.0 1.1 -> done; 0 conflict 0.0 2.2 -> refused no-room",
+    ),
+    (
+        Limits {
+            tasks: 2,
+            conflicts: 1,
+        },
+        "0 join -> joined 0.0; 0 join -> joined 1.1; 0 join -> refused full; \
+        0 conflict 0.0 1.1 -> done; 0 hungry 0.0 -> done (2); 0 leave 0.0 -> refused hungry; \
+        0 leave 1.1 -> done; 0 join -> joined 1.2; 0 leave 1.1 -> refused unknown; \
+        0 conflict 0.0 2.2 -> refused unknown; 0 separate 0.0 1.2 -> refused apart; \
+        0 conflict 1.2 0.0 -> done (2); 0 separate 0.0 1.2 -> done; \
+        0 conflict 0.0 1.2 -> done (2); 0 conflict 1.1 0.0 -> refused unknown",
     ),
 ];
 
