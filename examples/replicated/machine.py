@@ -131,7 +131,9 @@ class Machine:
             raise Stop(f"the program ended with status {self.process.wait()}") from None
         lines = []
         while not (got := self.process.stdout.readline()).startswith(b"? next "):
-            if not got.endswith(b"\n") or got[:1] not in b"?!0123456789":
+            if not got.endswith(b"\n"):
+                raise Stop(f"the program ended with status {self.process.wait()}")
+            if got[:1] not in b"?!0123456789":
                 raise Stop(f"the program answered {got!r}")
             lines.append(got)
         self.busy_since = None

@@ -4,6 +4,7 @@ Behind each of these the journals are equal and legal, and each client's answers
 Standard library only.
 """
 import contextlib
+import json
 import os
 import shutil
 
@@ -68,26 +69,29 @@ class Stand:
         lines = contents(self.nodes[0].journal).decode().splitlines()
         for client in self.diners.clients:
             answers = [answer.split(" ", 1) for _, _, answer in client.answers]
-            same("what was answered, at its places", [lines[int(place)] for place, _ in answers], [entry for _, entry in answers])
-            own = [line for line in lines if line.startswith(f"{client.caller} ")]
-            same("the entries of a client", own, [entry for _, entry in answers])
+            places = [int(place) for place, _ in answers]
+            same("whether each answer's place is behind the one before", places == sorted(set(places)), True)
+            for place, (_, entry) in zip(places, answers):
+                same("the entry at an answer's place", lines[place : place + 1], [entry])
+            same("how many entries a client has", sum(line.startswith(f"{client.caller} ") for line in lines), len(places))
         self.ask_again()
         self.diners.table.is_kept()
         return entries
 
     def ask_again(self):
-        """Each client's last request comes again at each node, and has the same answer."""
+        """Each client's last request comes again at each node, and has the same answer. (The client doesn't come back meanwhile.)"""
         for client in self.diners.clients:
             number, call, answer = client.answers[-1]
-            for node in self.nodes:
-                line = Line(node, client.secret, client.caller)
-                same("what comes again", line.ask(f"{client.caller} {number}{call}"), number + answer)
-                line.close()
+            with client.lock:
+                for node in self.nodes:
+                    line = Line(node, client.secret, client.caller)
+                    same("what comes again", line.ask(f"{client.caller} {number}{call}"), number + answer)
+                    line.close()
 
 
 @contextlib.contextmanager
 def stand_of(bench):
-    """Three hosts, on which clients have begun to eat."""
+    """Three hosts, and clients round a table."""
     with hosts_of(HOSTS) as hosts, members_of(bench.folder, HOSTS, hosts=hosts) as members:
         with Bench(bench.program, members, bench.folder, bench.log) as own:
             stand = Stand(own, hosts)
@@ -144,28 +148,36 @@ def a_member_is_killed_and_comes_back(bench):
         return f"{stand.diners.table.meals} meals, {entries} entries"
 
 
+def copied(node, name):
+    """A copy of one of the node's files, while the node runs."""
+    shutil.copyfile(getattr(node, name), getattr(node, name) + ".copy")
+
+
+def copied_back(node, begins_by):
+    """The node is off, and comes back with the copies."""
+    node.kill()
+    for name in ("journal", "checkpoint"):
+        os.replace(getattr(node, name) + ".copy", getattr(node, name))
+    same("the node begins by", node.start().rsplit("by ", 1)[1], begins_by)
+
+
+def is_past(node):
+    """Whether the node has a checkpoint of more than the copy of its journal has."""
+    return json.loads(contents(node.checkpoint).split(b"\n", 1)[1])["size"] > os.path.getsize(node.journal + ".copy")
+
+
 def a_disk_is_copied_back(bench):
-    """A node whose files are copied back to an older state, all of one moment or not, has the others' journal again."""
+    """A node whose files are copied back to an older state, the journal to a later one than the checkpoint or an earlier one, goes on."""
     with stand_of(bench) as stand:
-        for at, files, begins_by in ((0, ("checkpoint", "journal"), "--resume"), (1, ("journal", "checkpoint"), "the whole log")):
-            node = stand.nodes[at]
-            await_that(lambda node=node: os.path.exists(node.checkpoint), "a checkpoint")
-
-            def copy(name, node=node):
-                shutil.copyfile(getattr(node, name), getattr(node, name) + ".copy")
-
-            def copy_back(node=node, files=files, begins_by=begins_by):
-                node.kill()
-                for name in files:
-                    os.replace(getattr(node, name) + ".copy", getattr(node, name))
-                same("the node begins by", node.start().rsplit("by ", 1)[1], begins_by)
-
-            # (while it runs, and the second only once the node has a checkpoint of more meals)
-            stand.eat(lambda copy=copy, files=files: copy(files[0]))
-            copy(files[1])
-            stand.eat(copy_back)
-            entries = stand.holds()
-        return f"{stand.diners.table.meals} meals, {entries} entries"
+        first, second, _ = stand.nodes
+        await_that(lambda: all(os.path.exists(node.checkpoint) for node in stand.nodes), "the nodes have checkpoints")
+        stand.eat(lambda: copied(first, "checkpoint"), lambda: copied(first, "journal"))
+        stand.eat(lambda: copied_back(first, "--resume"))
+        stand.holds()
+        stand.eat(lambda: copied(second, "journal"), lambda: await_that(lambda: is_past(second), "a later checkpoint"))
+        copied(second, "checkpoint")
+        stand.eat(lambda: copied_back(second, "the whole log"))
+        return f"{stand.diners.table.meals} meals, {stand.holds()} entries"
 
 
 TESTS = (
