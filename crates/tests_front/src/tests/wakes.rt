@@ -75,7 +75,9 @@ const ROWS: [Waits; 4] = [
 
 fn check(rt: &impl Machine, waits: &Waits) {
     let (name, _, tasks, ..) = *waits;
-    let from = from(rt, (tasks.len() as u32).saturating_add(1));
+    let waiting = tasks.len();
+    assert!(rt; waiting < 16);
+    let from = from(rt, (waiting as u32).saturating_add(1));
     same_in(rt, name, visit_a_front(rt, from, Visit::Waits(waits)), None);
 }
 
