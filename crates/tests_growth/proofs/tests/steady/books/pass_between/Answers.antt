@@ -7,3 +7,6 @@ fork-fork-requires c = in_use_if_found c.args.a c.args.b c.in-Some.id _ (sym c.f
 
 pub set_fork-requires : goal.set_fork-requires
 set_fork-requires c = in_use_if_found c.args.a c.args.b c.in-Some.id _ (sym c.find.ensures ∙ c.in-Some.is)
+
+pub ends-ends-requires : goal.ends-ends-requires
+ends-ends-requires c = in_use_if_found c.args.a c.args.b c.in-Some.id _ (sym c.find.ensures ∙ c.in-Some.is)
