@@ -1,4 +1,4 @@
-"""What a person does at a page that `hygienic chart --html` writes: a name is found, bars are pointed at, the picture is moved."""
+"""What a person does at a page of `hygienic chart --html`: a name is found, bars are pointed at, the picture is moved."""
 import json
 
 # So many bars of a page are pointed at, and one of them so often zoomed into.
@@ -47,7 +47,7 @@ def pointed_at(browser, number):
 
 
 def moved(browser, number):
-    """What is wrong with how the picture is moved: the wheel zooms at the mouse, a drag moves, and a double click shows all."""
+    """What is wrong with how the picture is moved: the wheel zooms at the mouse, a drag moves, a double click shows all."""
     whole, wrong = browser.value(VIEW), []
     _, x, y, _ = browser.value(BAR % number)
     for _ in range(ZOOMS):
@@ -69,7 +69,7 @@ def moved(browser, number):
 
 
 def used(browser, wanted):
-    """What is wrong with a page that is open: a name is found in the row that begins with these cells, and bars tell what they are."""
+    """What is wrong with an open page: a name is in the row that begins with these cells, and bars tell what they are."""
     row = row_found(browser, wanted[0])
     wrong = [] if row and row[: len(wanted)] == wanted else [f"{wanted[0]} is found in the row {row}, and not {wanted}"]
     bars = bars_seen(browser)

@@ -47,7 +47,7 @@ class Table:
 
 
 class Diners:
-    """Clients, each with a task of its own and in conflict with its two neighbours. The first one's own node is the first, and so on."""
+    """Clients, each with a task of its own and in conflict with its neighbours. The first one's node is the first."""
 
     def __init__(self, nodes, count, kind=Client):
         self.table, self.threads, self.clients, self.ends = Table(count), [], [], threading.Event()

@@ -1,8 +1,8 @@
 """Hosts of their own at one bridge, each a network namespace with a link that can be cut. Standard library only.
 
-It takes Linux, with `ip` of iproute2 and with `unshare` and `nsenter` of util-linux. Who makes hosts is in a network namespace itself,
-from which no link leads outside. Root may make one, and anybody as the root of a user namespace, if the kernel lets. Nothing of it is
-seen from outside or has a name there, and all of it is gone once its processes are.
+It takes Linux, with `ip` of iproute2 and with `unshare` and `nsenter` of util-linux. Who makes hosts is in a network namespace
+itself, from which no link leads outside. Root may make one, and anybody as the root of a user namespace, if the kernel lets.
+Nothing of it is seen from outside or has a name there, and all of it is gone once its processes are.
 """
 import contextlib
 import itertools
@@ -25,7 +25,7 @@ class Apart:
 
     @classmethod
     def words(cls, *command):
-        """The words that run a command in a network namespace of its own, which has a loopback, or None if there can be none."""
+        """The words that run a command in a network namespace of its own with a loopback, or None if there can be none."""
         reasons = []
         for way in WAYS:
             words = ["unshare", *way, "--net", "--", "sh", "-c", 'ip link set lo up && exec "$@"', "sh"]

@@ -1,7 +1,7 @@
 """Tests of three hosts, each with a member of etcd, a node and clients: a link is cut, a member killed, a disk copied back.
 
-Behind each of these the journals are equal and legal, and each client's answers are its entries in them, each once and in order.
-Standard library only.
+Behind each of these the journals are equal and legal, and each client's answers are its entries in them, each once and in
+order. Standard library only.
 """
 import contextlib
 import json
@@ -79,7 +79,7 @@ class Stand:
         return entries
 
     def ask_again(self):
-        """Each client's last request comes again at each node, and has the same answer. (The client doesn't come back meanwhile.)"""
+        """Each client's last request comes again at each node, and has the same answer. (The client waits meanwhile.)"""
         for client in self.diners.clients:
             number, call, answer = client.answers[-1]
             with client.lock:
@@ -124,7 +124,7 @@ def a_link_is_cut_and_mended(bench):
 
 
 def a_member_is_killed_and_comes_back(bench):
-    """A member of etcd that leads or follows is killed, alone or with the node beside it, which else goes on, and comes back."""
+    """A member that leads or follows is killed, with the node beside it or without, which goes on then, and comes back."""
     with stand_of(bench) as stand:
         for step, has_node in ((0, False), (1, False), (0, True), (1, True)):
             at = (stand.leader() + step) % HOSTS
@@ -167,7 +167,7 @@ def is_past(node):
 
 
 def a_disk_is_copied_back(bench):
-    """A node whose files are copied back to an older state, the journal to a later one than the checkpoint or an earlier one, goes on."""
+    """A node whose files are copied back, the journal to a later state than the checkpoint or an earlier one, goes on."""
     with stand_of(bench) as stand:
         first, second, _ = stand.nodes
         await_that(lambda: all(os.path.exists(node.checkpoint) for node in stand.nodes), "the nodes have checkpoints")

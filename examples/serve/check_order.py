@@ -17,7 +17,7 @@ CALLS = ("hungry", "hungry", "begin", "begin", "finish", "finish", "withdraw")
 LEAVES = {"join": "thinking", "hungry": "hungry", "begin": "eating", "finish": "thinking", "withdraw": "thinking"}
 DAY = 86_400 * 10**9
 
-# A call of a client: its place, what stands there without the pass, and the clock before and after. A look, and what it is answered.
+# A call of a client: its place, the entry without its pass, and the clock before and after. A look, and the state it told.
 Call = collections.namedtuple("Call", "place entry before after")
 Look = collections.namedtuple("Look", "task state before after")
 
@@ -49,9 +49,10 @@ def call_and_look(line, seat, meeting):
 
 
 def played(path):
-    """All calls and all looks. The first client lays the table, and clears it, so that the hub has nothing to end when clients go."""
+    """All calls and all looks. The first client lays the table and clears it, so the hub ends nothing when clients go."""
     lines, meeting = [Line(path, "hello") for _ in range(CLIENTS)], threading.Barrier(CLIENTS)
-    calls = [called(lines[0], call) for call in (*["join"] * len(TASKS), *(f"conflict {a} {b}" for a, b in zip(TASKS, TASKS[1:])))]
+    calls = [called(lines[0], "join") for _ in TASKS]
+    calls += [called(lines[0], f"conflict {task} {other}") for task, other in zip(TASKS, TASKS[1:])]
     with concurrent.futures.ThreadPoolExecutor(CLIENTS) as threads:
         found = list(threads.map(lambda seat: call_and_look(lines[seat], seat, meeting), range(CLIENTS)))
     calls += [called(lines[0], f"{word} {task}") for task in TASKS for word in ("withdraw", "finish")]
@@ -91,7 +92,7 @@ def changes_of(calls):
 
 
 def check_looks(calls, looks):
-    """Each look tells a state that its task had when each call had its entry that ended before the look, and none that began behind it."""
+    """Each look tells a state that its task had behind all calls that ended before it, before any that began behind it."""
     ends = sorted((call.after, place) for place, call in enumerate(calls, 1))
     latest = list(itertools.accumulate((place for _, place in ends), max, initial=0))
     begins = sorted((-call.before, place) for place, call in enumerate(calls, 1))
@@ -134,7 +135,7 @@ def refuses_what_is_out_of_order(calls, looks):
 
 
 def calls_have_their_order(bench):
-    """Whatever twelve clients call at once, no entry is before one that had ended when it was asked for, and no look is late."""
+    """Whatever twelve clients call, no entry is before one that had ended when it was asked for, and no look is late."""
     journal = bench.path("journal")
     with bench.hub("--open", "--keep", "--journal", journal) as path:
         calls, looks = played(path)
