@@ -101,7 +101,9 @@ impl Listener for Counts {
 const BROKEN: &[u8] = b"dine 2 64 256\nhungri a\n";
 
 // A command line, and an input that has a fault.
-const FAULTY: [(&[&str], &[u8]); 7] = [
+type Faulty = (&'static [&'static str], &'static [u8]);
+
+const FAULTY: [Faulty; 7] = [
     (&["hygienic", "run"], b"hungri a\nhungri b\n"),
     (&["hygienic", "race"], b"setup = []\n\n\n\n\n\n"),
     (&["hygienic", "audit"], BROKEN),
@@ -113,8 +115,8 @@ const FAULTY: [(&[&str], &[u8]); 7] = [
 
 // Runs a command whose reads give so many bytes and fail after so many, and whose writes fail after one of three bytes: nothing
 // is told.
-fn check_untold(rt: &impl Machine, place: usize, most: usize, reads: u32) {
-    let (words, input) = FAULTY[place];
+fn check_untold(rt: &impl Machine, place: usize, row: &Faulty, most: usize, reads: u32) {
+    let (words, input) = *row;
     let mut reader = FailingReader::new(input, most, reads);
     let mut writer = FailingWriter::new(3, 1);
     let counts = Counts { remarks: 0 };
@@ -126,8 +128,8 @@ fn check_untold(rt: &impl Machine, place: usize, most: usize, reads: u32) {
 // before its output is written.
 #[test]
 fn nobody_is_told_of_what_is_not_read_or_answered(rt: HostRuntime) {
-    for place in 0..FAULTY.len() {
-        check_untold(&rt, place, 9, 1);
+    for (place, row) in FAULTY.iter().enumerate() {
+        check_untold(&rt, place, row, 9, 1);
     }
-    check_untold(&rt, 0, 100, 10);
+    check_untold(&rt, 0, &FAULTY[0], 100, 10);
 }
