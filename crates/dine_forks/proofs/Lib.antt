@@ -24,7 +24,6 @@ pub mod Sending
 pub mod Asking
 pub mod Lacking
 pub mod Blocks
-pub mod Steps
 pub mod Crosses
 pub mod Memory
 pub mod Sharing

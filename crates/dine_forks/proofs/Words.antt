@@ -14,8 +14,9 @@ pub use Rattle.std.specs.List.{filter, list_all, list_any, sum_by}
 pub use Rattle.std.specs.Option.{is_none, option_map, option_or}
 pub use Rattle.dine_forks.specs.Asking.{IsTiedBefore, answer_messages, answered, asked_at, asked_book, asked_fork, asking_messages, can_ask, requests_of}
 pub use Rattle.dine_forks.specs.Asking.{settled_at, settled_book, settled_fork, writes_of}
-pub use Rattle.dine_forks.specs.Blocks.{AreCells, AreLeft, Block, Cell, Hook, InBlock, IsBlock, IsCell, IsHook, IsIn, IsSameBlock, IsWritten, Place, Ptr, blank_node, block_nodes, hook_at, linked_id}
-pub use Rattle.dine_forks.specs.Blocks.{links_of, node_of, nodes_in, number_at, own_number, number_or, place_at, the_row, vacant_cell, with_hook}
+pub use Rattle.dine_forks.specs.Blocks.{AreCells, AreLeft, Block, Cell, Hook, InBlock, IsBlock, IsCell, IsIn, IsNamed, IsSameBlock, IsWritten, Part, Place, Ptr, blank_node, block_nodes, cell_in, cell_index}
+pub use Rattle.dine_forks.specs.Blocks.{cell_or, cell_place, fork_in, label_of, link_in, linked_id, node_in, node_of, nodes_from, number_at, number_in, number_or, place_at, put_link, the_row, vacant_cell}
+pub use Rattle.dine_forks.specs.Blocks.{with_link, with_pointer}
 pub use Rattle.dine_forks.specs.Book.{ForkBook, EachIdOnce, EachPairOnce, EndsAreSlots, Fork, ForkId, ForkRecord, IsBook, Onward, are_joined, behind, book_with_fork, change_fork, changed_where}
 pub use Rattle.dine_forks.specs.Book.{empty_book, ends_of, first_id, given_back_to, has_id, holds, id_below, id_between, is_between, is_end, is_in_use, other_end, put_fork, reached, record_of}
 pub use Rattle.dine_forks.specs.Book.{same_id, slot_list, dirtied, with_changed_fork, with_fork, with_record, with_token, without}
@@ -28,10 +29,10 @@ pub use Rattle.dine_forks.specs.Kept.{AllListed, AreFree, AreNamed, AreWithin, I
 pub use Rattle.dine_forks.specs.Lends.{with_slots}
 pub use Rattle.dine_forks.specs.Lists.{AreLinked, CanHang, HasPlace, IsLinked, IsListed, Links, ListEnds, Node, blank, cut_list, cut_lists, cut_nodes, cut_nodes_in, empty_list, first_or, forked, forked_nodes}
 pub use Rattle.dine_forks.specs.Lists.{hung_list, hung_lists, hung_nodes, hung_nodes_in, last_or, links_at, links_in, list_at, no_links, node_at, put_links_in, put_next_in}
-pub use Rattle.dine_forks.specs.Lists.{put_previous_in, record_at, records_of, renewed, renewed_nodes, vacant, with_links, with_links_in, without_fork}
+pub use Rattle.dine_forks.specs.Lists.{put_previous_in, record_at, records_of, renewed, renewed_nodes, vacant, with_links, with_links_in}
 pub use Rattle.dine_forks.specs.Places.{IsFilledAt}
 pub use Rattle.dine_forks.specs.Rows.{AreInRow, AreOnce, IsNear, IsOrdered, RowHasIds, Lacks, ids_from, ids_of, row_first, row_last}
-pub use Rattle.dine_forks.specs.Steps.{AreRecords, AreSteps, HasTaken, IsStep, Records, WalkStep, after_at, blank_step, provided_list, provided_nodes, put_after, records_in, step_at, stepped, wants_record, with_after, with_given}
+pub use Rattle.dine_forks.specs.Taking.{HasTaken, Records, provided_list, provided_nodes, wants_record, with_given}
 pub use Rattle.dine_forks.specs.Search.{place_between, records_read, searched_end}
 pub use Rattle.dine_forks.specs.Marks.{IsTied, dirtied_record, is_marked, own_dirtied_at, own_dirtied_fork, seen_book, seen_record}
 

@@ -13,6 +13,11 @@ abbrev pub number_of : Option ForkId → ℕ
 number_of None = 4294967295
 number_of (Some id) = id.number
 
+-- the number of the id, if there is one, and else another
+abbrev pub number_or : ℕ → Option ForkId → ℕ
+number_or none None = none
+number_or none (Some id) = id.number
+
 -- the number of what a number stands for is that number
 pub number-link_of : (number : ℕ) → number_of (link_of number) ≡ number
 number-link_of number =

@@ -1,8 +1,8 @@
 //! The lists: fork records in order of declaration, each in the lists of its two ends, its fork as it was written last.
 //!
 //! They know no holder and no use. All records, the vacant ones too, lie in one raw block that is taken when the lists
-//! are made and given back when they are dropped; the vacant ones hang in a list of their own. What a walk reads of them
-//! stands beside the block, side by side. Ids that were never given come from a counter, once no record is vacant.
+//! are made and given back when they are dropped; the vacant ones hang in a list of their own. Ids that were never given come
+//! from a counter, once no record is vacant.
 
 ghost use Rattle.std.specs.Prelude.{◌≡◌, ◌≢◌, ◌==◌, ◌<◌, ◌≤◌, false, if◌then◌else◌, length, None, Some, IfOk, IfSome, IsTrue};
 ghost use Rattle.dine_forks.specs.Book.{CanBeLinked, FitsBook, HasLinked, IsBook, IsVisit, behind, book_with_fork, empty_book, first_id, id_between, is_in_use};
@@ -81,23 +81,6 @@ impl ListEnds {
             } else {
                 self.last
             },
-            degree: self.degree - 1,
-        }
-    }
-
-    // The ends once the last record is cut out, which followed this one.
-    #[inline(always)]
-    fn without_last(self, previous: Link) -> ListEnds
-        requires { 1 ≤ self.degree }
-        ensures { result ≡ cut_list record { previous = previous; next = None } self }
-    {
-        ListEnds {
-            first: if previous.is_none() {
-                Link::NONE
-            } else {
-                self.first
-            },
-            last: previous,
             degree: self.degree - 1,
         }
     }

@@ -1,20 +1,44 @@
 //! All records, in one raw block. Each hangs by raw pointers in the lists of its ends and in one list of all.
 //!
-//! A place behind the last record stands for none: what has no neighbour points there, so no link is ever tested. The forks
-//! stand beside the block, with what a walk reads (`records`).
+//! A record lies in three cells of the block: what a walk reads, by which the next pointers go, and beside it the previous
+//! pointers, and those of the list of all. So a walk takes 24 bytes of a record along. A pointer leads to the first of the cells.
 //!
-//! The memory is taken at once, but the place of a record is written when the record is first given: a page of it costs
-//! nothing before.
+//! A place behind the last record stands for none: what has no neighbour points there, so no link is ever tested. The memory is
+//! taken at once, but the cells of a record are written when the record is first given: a page of them costs nothing before.
+//!
+//! Four functions follow or change links: `read`, `write`, `hang` and `cut`.
 
-ghost use Rattle.std.specs.Prelude.{◌≡◌, ◌<◌, ◌≤◌, ◌++◌, ◌∷◌, [], Some, None, length, IfOk};
-ghost use Rattle.dine_forks.specs.Lists.{CanHang, HasPlace, cut_nodes_in, hung_nodes_in, links_in, node_at, put_next_in, put_previous_in, renewed_nodes, without_fork};
-ghost use Rattle.dine_forks.specs.Blocks.{IsBlock, IsIn, IsSameBlock, blank_node, block_nodes, hook_at, linked_id, place_at};
-ghost use Rattle.dine_forks.specs.Blocks.{number_or, vacant_cell, with_hook};
+ghost use Rattle.std.specs.Prelude.{◌≡◌, ◌==◌, ◌+◌, ◌<◌, if◌then◌else◌, Some, None, ◌≤◌, ◌++◌, ◌∷◌, [], length, IfOk};
+ghost use Rattle.dine_forks.specs.Lists.{CanHang, HasPlace, cut_nodes_in, hung_nodes_in, links_in, node_at, put_next_in, put_previous_in, record_at, renewed_nodes};
+ghost use Rattle.dine_forks.specs.Book.{id_below};
+ghost use Rattle.dine_forks.specs.Blocks.{IsBlock, IsIn, IsSameBlock, IsWritten, blank_node, block_nodes, cell_place, fork_in, label_of};
+ghost use Rattle.dine_forks.specs.Blocks.{link_in, linked_id, number_at, number_in, number_or, put_link, vacant_cell, with_pointer};
 
 use super::Links;
 use super::cells::{Cells, Lease, Place, Start, allocate, deallocate};
-use crate::record::{ForkId, Link};
+use crate::record::{Fork, ForkId, ForkRecord, Link, Onward};
 use std::alloc::{AllocError, Global};
+
+/// One of the three cells of a record.
+#[derive(Clone, Copy)]
+pub enum Part {
+    /// What follows the record in the lists of its first and of its second end, with the record itself.
+    Next,
+    /// What it follows there.
+    Previous,
+    /// What it follows in the list of all, and what follows it there.
+    All,
+}
+
+/// Two pointers of a record, and in the part of the next ones its ends and its label: its number and its fork.
+#[derive(Clone, Copy)]
+pub struct Cell {
+    one: Place,
+    two: Place,
+    first: u16,
+    second: u16,
+    label: u32,
+}
 
 /// The neighbours of a record in one list, by where they lie.
 #[derive(Clone, Copy)]
@@ -23,119 +47,71 @@ pub struct Hook {
     next: Place,
 }
 
-/// The id and the ends of a record, with its neighbours in the lists of its first and of its second end, and in the list of
-/// all.
-#[derive(Clone, Copy)]
-pub struct Cell {
-    id: ForkId,
-    first: u32,
-    second: u32,
-    at_first: Hook,
-    at_second: Hook,
-    all: Hook,
-}
-
-impl Hook {
-    // Without neighbours.
-    fn none(nowhere: Place) -> Hook
-        ensures { (result.previous ≡ nowhere) × (result.next ≡ nowhere) }
-    {
-        Hook {
-            previous: nowhere,
-            next: nowhere,
-        }
-    }
+// The label of a record: its number in the lowest 24 bits, and above it a bit for each thing that is told of its fork.
+#[inline(always)]
+fn label(number: u32, fork: Fork) -> u32
+    requires { number ≤ 65536 }
+    ensures { result ≡ label_of number fork }
+{
+    let at_first = if fork.at_first { 16_777_216 } else { 0 };
+    let dirty = if fork.dirty { 33_554_432 } else { 0 };
+    let token = if fork.token_first { 67_108_864 } else { 0 };
+    number + at_first + dirty + token
 }
 
 impl Cell {
-    // A cell in no list.
+    // The cell of a record in no list.
+    #[inline(always)]
     fn vacant(number: u32, nowhere: Place) -> Cell
+        requires { number ≤ 65536 }
         ensures { result ≡ vacant_cell nowhere number }
     {
-        let hook = Hook::none(nowhere);
         Cell {
-            id: ForkId { number },
+            one: nowhere,
+            two: nowhere,
             first: 0,
             second: 0,
-            at_first: hook,
-            at_second: hook,
-            all: hook,
+            label: number,
         }
     }
 
-    // The neighbours in the list of a slot that is an end, or in the list of all.
+    // One of the two pointers.
     #[inline(always)]
-    fn hook_at(&self, list: Option<u32>) -> Hook
-        ensures { result ≡ hook_at list self.now }
+    fn pointer(&self, one: bool) -> Place
+        ensures { result ≡ (if one then self.now.one else self.now.two) }
     {
-        match list {
-            Some(slot) => {
-                if slot == self.first {
-                    self.at_first
-                } else {
-                    self.at_second
-                }
-            }
-            None => self.all,
+        if one { self.one } else { self.two }
+    }
+
+    // Puts one of the two pointers.
+    #[inline(always)]
+    fn set_pointer(&mut self, one: bool, pointer: Place)
+        ensures { self.new ≡ with_pointer one pointer self.old }
+    {
+        if one {
+            self.one = pointer;
+        } else {
+            self.two = pointer;
         }
     }
 
-    // Puts the neighbours in that list.
+    // The number of the record.
     #[inline(always)]
-    fn set_hook(&mut self, list: Option<u32>, hook: Hook)
-        ensures { self.new ≡ with_hook list hook self.old }
+    fn number(&self) -> u32
+        ensures { result ≡ number_in self.now.label }
     {
-        match list {
-            Some(slot) => {
-                if slot == self.first {
-                    self.at_first = hook;
-                } else {
-                    self.at_second = hook;
-                }
-            }
-            None => {
-                self.all = hook;
-            }
-        }
+        self.label % 16_777_216
     }
 
-    // Puts what follows in that list. What it follows there is neither read nor written.
+    // The fork of the record.
     #[inline(always)]
-    fn set_next(&mut self, list: Option<u32>, next: Place)
-        ensures { self.new ≡ with_hook list
-            record { previous = (hook_at list self.old).previous; next = next } self.old }
+    fn fork(&self) -> Fork
+        ensures { result ≡ fork_in self.now.label }
     {
-        match list {
-            Some(slot) => {
-                if slot == self.first {
-                    self.at_first.next = next;
-                } else {
-                    self.at_second.next = next;
-                }
-            }
-            None => {
-                self.all.next = next;
-            }
-        }
-    }
-
-    // Puts what it follows in that list. What follows there is neither read nor written.
-    #[inline(always)]
-    fn set_previous(&mut self, list: Option<u32>, previous: Place)
-        ensures { self.new ≡ with_hook list
-            record { previous = previous; next = (hook_at list self.old).next } self.old }
-    {
-        match list {
-            Some(slot) => {
-                if slot == self.first {
-                    self.at_first.previous = previous;
-                } else {
-                    self.at_second.previous = previous;
-                }
-            }
-            None => {
-                self.all.previous = previous;
-            }
+        Fork {
+            at_first: self.label / 16_777_216 % 2 == 1,
+            dirty: self.label / 33_554_432 % 2 == 1,
+            token_first: self.label / 67_108_864 % 2 == 1,
         }
     }
 }
@@ -147,92 +123,176 @@ pub struct Block {
     lease: Lease<Cell, Global>,
     alloc: Global,
     room: u32,
-    // How many records were ever given: those below the number, whose places are written.
+    // How many records were ever given: those below the number, whose cells are written.
     given: u32,
 }
 
 impl Block {
-    // Where a record lies, or the place that stands for none.
+    // Where a cell of a record lies, or of the place that stands for none.
     #[inline(always)]
-    fn place(&self, number: u32) -> Place
+    fn place(&self, part: Part, number: u32) -> Place
         requires block { IsBlock self.now }
         requires within { number ≤ self.now.room }
-        ensures { result.ptr ≡ place_at self.now.cells.at number }
+        ensures { result.ptr ≡ cell_place self.now.cells.at self.now.room part number }
     {
-        self.cells.place(self.base, number as usize)
+        let places = self.room as usize + 1;
+        let index = match part {
+            Part::Next => number as usize,
+            Part::Previous => places + number as usize,
+            Part::All => places + places + number as usize,
+        };
+        self.cells.place(self.base, index)
     }
 
-    // Where a record lies, if there is one.
+    // The number of the record at a place, or that of the place which stands for none.
     #[inline(always)]
-    #[tactic(auto, using(crate::proofs::Blocks::number_or_written))]
-    fn place_of(&self, id: Option<ForkId>) -> Place
+    fn number_of(&self, place: Place) -> u32
         requires block { IsBlock self.now }
-        requires within { HasPlace (block_nodes self.now) id }
-        ensures { result.ptr ≡ place_at self.now.cells.at (number_or self.now.room id) }
+        requires within { IsIn self.now.cells.at self.now.room self.now.given place }
+        ensures { result ≡ number_at self.now.cells.at place.ptr }
     {
-        match id {
-            Some(id) => self.place(id.number),
-            None => self.place(self.room),
+        self.cells.at(place).number()
+    }
+
+    // Whether a slot that is an end of a record is the first one.
+    #[inline(always)]
+    fn is_first(&self, slot: u32, number: u32) -> bool
+        requires block { IsBlock self.now }
+        requires written { IsWritten self.now.room self.now.given number }
+        ensures { number < self.now.given → result
+            ≡ (slot == (node_at (block_nodes self.now) record { number = number }).content.first) }
+    {
+        let cell = self.cells.at(self.place(Part::Next, number));
+        slot == cell.first as u32
+    }
+
+    // One of the two pointers of a cell.
+    #[inline(always)]
+    fn pointer(&self, part: Part, number: u32, one: bool) -> Place
+        requires block { IsBlock self.now }
+        requires written { IsWritten self.now.room self.now.given number }
+        ensures within { IsIn self.now.cells.at self.now.room self.now.given result }
+        ensures link { number < self.now.given →
+            linked_id self.now.cells.at self.now.room result
+            ≡ link_in part one (node_at (block_nodes self.now) record { number = number }) }
+    {
+        self.cells.at(self.place(part, number)).pointer(one)
+    }
+
+    // Puts one of the two pointers of a cell.
+    #[inline(always)]
+    fn set_pointer(&mut self, part: Part, number: u32, one: bool, pointer: Place)
+        requires block { IsBlock self.old }
+        requires written { IsWritten self.old.room self.old.given number }
+        requires within { IsIn self.old.cells.at self.old.room self.old.given pointer }
+        ensures block { IsSameBlock self.old self.new }
+        ensures nodes { block_nodes self.new ≡ put_link part one (id_below self.old.room number)
+            (linked_id self.old.cells.at self.old.room pointer) (block_nodes self.old) }
+    {
+        let at = self.place(part, number);
+        let cell = self.cells.at_mut(at);
+        cell.set_pointer(one, pointer);
+    }
+
+    // What follows a record in a list is the record at the place, or none.
+    #[inline(always)]
+    fn set_next(&mut self, list: Option<u32>, number: u32, next: Place)
+        requires block { IsBlock self.old }
+        requires written { IsWritten self.old.room self.old.given number }
+        requires next { IsIn self.old.cells.at self.old.room self.old.given next }
+        ensures block { IsSameBlock self.old self.new }
+        ensures nodes { block_nodes self.new ≡ put_next_in list (id_below self.old.room number)
+            (linked_id self.old.cells.at self.old.room next) (block_nodes self.old) }
+    {
+        match list {
+            Some(slot) => {
+                let one = self.is_first(slot, number);
+                self.set_pointer(Part::Next, number, one, next);
+            }
+            None => self.set_pointer(Part::All, number, false, next),
         }
     }
 
-    // The id of the record at a place, if it is one.
+    // What a record follows in a list is the record at the place, or none.
     #[inline(always)]
-    #[tactic(auto, using(crate::proofs::Blocks::filled))]
-    fn id_at(&self, place: Place) -> Link
-        requires block { IsBlock self.now }
-        requires within { IsIn self.now.cells.at self.now.room self.now.given place }
-        ensures { result ≡ linked_id self.now.cells.at self.now.room place }
-    {
-        Link::of(self.cells.at(place).id.number)
-    }
-
-    // The record at a place is followed by the one at the other place, where both are records.
-    #[inline(always)]
-    #[tactic(auto, using(crate::proofs::Blocks::filled, crate::proofs::Blocks::next_nodes))]
-    fn set_next(&mut self, list: Option<u32>, place: Place, next: Place)
+    fn set_previous(&mut self, list: Option<u32>, number: u32, previous: Place)
         requires block { IsBlock self.old }
-        requires within { IsIn self.old.cells.at self.old.room self.old.given place }
-        requires next { IsIn self.old.cells.at self.old.room self.old.given next }
-        ensures block { IsSameBlock self.old self.new }
-        ensures nodes { block_nodes self.new ≡ put_next_in list
-            (linked_id self.old.cells.at self.old.room place)
-            (linked_id self.old.cells.at self.old.room next) (block_nodes self.old) }
-    {
-        let cell = self.cells.at_mut(place);
-        cell.set_next(list, next);
-    }
-
-    // The record at a place follows the one at the other place, where both are records.
-    #[inline(always)]
-    #[tactic(auto, using(crate::proofs::Blocks::filled, crate::proofs::Blocks::previous_nodes))]
-    fn set_previous(&mut self, list: Option<u32>, place: Place, previous: Place)
-        requires block { IsBlock self.old }
-        requires within { IsIn self.old.cells.at self.old.room self.old.given place }
+        requires written { IsWritten self.old.room self.old.given number }
         requires previous { IsIn self.old.cells.at self.old.room self.old.given previous }
         ensures block { IsSameBlock self.old self.new }
-        ensures nodes { block_nodes self.new ≡ put_previous_in list
-            (linked_id self.old.cells.at self.old.room place)
+        ensures nodes { block_nodes self.new ≡ put_previous_in list (id_below self.old.room number)
             (linked_id self.old.cells.at self.old.room previous) (block_nodes self.old) }
     {
-        let cell = self.cells.at_mut(place);
-        cell.set_previous(list, previous);
+        match list {
+            Some(slot) => {
+                let one = self.is_first(slot, number);
+                self.set_pointer(Part::Previous, number, one, previous);
+            }
+            None => self.set_pointer(Part::All, number, true, previous),
+        }
     }
 
-    /// Writes the ends of a record. It stays where it is in its lists.
+    // The neighbours of a record in a list.
     #[inline(always)]
-    #[tactic(auto, using(crate::proofs::Blocks::placed_filled))]
-    pub fn write(&mut self, id: ForkId, first: u32, second: u32)
-        requires block { IsBlock self.old }
-        requires within { id.number < length (block_nodes self.old) }
-        ensures block { IsSameBlock self.old self.new }
-        ensures nodes { block_nodes self.new
-            ≡ renewed_nodes (without_fork id first second) (block_nodes self.old) }
+    fn hook(&self, list: Option<u32>, number: u32) -> Hook
+        requires block { IsBlock self.now }
+        requires given { number < self.now.given }
+        ensures previous_in { IsIn self.now.cells.at self.now.room self.now.given result.previous }
+        ensures next_in { IsIn self.now.cells.at self.now.room self.now.given result.next }
+        ensures previous { linked_id self.now.cells.at self.now.room result.previous
+            ≡ (links_in list (node_at (block_nodes self.now) record { number = number })).previous }
+        ensures next { linked_id self.now.cells.at self.now.room result.next
+            ≡ (links_in list (node_at (block_nodes self.now) record { number = number })).next }
     {
-        let at = self.place(id.number);
+        match list {
+            Some(slot) => {
+                let one = self.is_first(slot, number);
+                Hook {
+                    previous: self.pointer(Part::Previous, number, one),
+                    next: self.pointer(Part::Next, number, one),
+                }
+            }
+            None => Hook {
+                previous: self.pointer(Part::All, number, true),
+                next: self.pointer(Part::All, number, false),
+            },
+        }
+    }
+
+    /// Reads a record, and what follows it in a list.
+    #[inline(always)]
+    pub fn read(&self, list: Option<u32>, id: ForkId) -> (ForkRecord, Onward)
+        requires block { IsBlock self.now }
+        requires within { id.number < length (block_nodes self.now) }
+        ensures record { result.0 ≡ record_at (block_nodes self.now) id }
+        ensures id { result.0.id ≡ id }
+        ensures first { result.0.first < 65536 }
+        ensures second { result.0.second < 65536 }
+        ensures next { id_below self.now.room result.1.number
+            ≡ (links_in list (node_at (block_nodes self.now) id)).next }
+    {
+        let cell = self.cells.at(self.place(Part::Next, id.number));
+        let record = ForkRecord::new(id, cell.first as u32, cell.second as u32, cell.fork());
+        let number = self.number_of(self.hook(list, id.number).next);
+        (record, Onward { number })
+    }
+
+    /// Writes a record under its id. It stays where it is in its lists.
+    #[inline(always)]
+    pub fn write(&mut self, content: ForkRecord)
+        requires block { IsBlock self.old }
+        requires within { content.id.number < length (block_nodes self.old) }
+        requires first { content.first < 65536 }
+        requires second { content.second < 65536 }
+        ensures block { IsSameBlock self.old self.new }
+        ensures nodes { block_nodes self.new ≡ renewed_nodes content (block_nodes self.old) }
+    {
+        let number = content.id.number;
+        let at = self.place(Part::Next, number);
         let cell = self.cells.at_mut(at);
-        cell.first = first;
-        cell.second = second;
+        cell.first = content.first as u16;
+        cell.second = content.second as u16;
+        cell.label = label(number, content.fork);
     }
 
     /// Hangs a record behind the last one of a list.
@@ -242,63 +302,39 @@ impl Block {
         ensures block { IsSameBlock self.old self.new }
         ensures nodes { block_nodes self.new ≡ hung_nodes_in list id last (block_nodes self.old) }
     {
-        let place = self.place(id.number);
-        let back = self.place_of(last.get());
-        let nowhere = self.place(self.room);
-        let cell = self.cells.at_mut(place);
-        cell.set_hook(
-            list,
-            Hook {
-                previous: back,
-                next: nowhere,
-            },
-        );
-        self.set_next(list, back, place);
+        let behind = last.number_or(self.room);
+        let place = self.place(Part::Next, id.number);
+        let back = self.place(Part::Next, behind);
+        let nowhere = self.place(Part::Next, self.room);
+        self.set_previous(list, id.number, back);
+        self.set_next(list, id.number, nowhere);
+        self.set_next(list, behind, place);
     }
 
     /// Cuts a record out of a list, and returns its neighbours there.
-    #[tactic(auto, using(crate::proofs::Blocks::length_nodes, crate::proofs::Blocks::near_links, crate::proofs::Blocks::placed_filled))]
     pub fn cut(&mut self, list: Option<u32>, id: ForkId) -> Links
         requires block { IsBlock self.old }
         requires within { id.number < length (block_nodes self.old) }
         ensures block { IsSameBlock self.old self.new }
         ensures links { result ≡ links_in list (node_at (block_nodes self.old) id) }
-        ensures places { HasPlace (block_nodes self.old) result.previous }
         ensures nodes { block_nodes self.new ≡ cut_nodes_in list
             (links_in list (node_at (block_nodes self.old) id))
             (block_nodes self.old) }
     {
-        let hook = self.cells.at(self.place(id.number)).hook_at(list);
-        self.set_next(list, hook.previous, hook.next);
-        self.set_previous(list, hook.next, hook.previous);
+        let hook = self.hook(list, id.number);
+        let previous = self.number_of(hook.previous);
+        let next = self.number_of(hook.next);
+        self.set_next(list, previous, hook.next);
+        self.set_previous(list, next, hook.previous);
         Links {
-            previous: self.id_at(hook.previous),
-            next: self.id_at(hook.next),
+            previous: Link::below(self.room, previous),
+            next: Link::below(self.room, next),
         }
-    }
-
-    /// Cuts the last record out of the list of the vacant ones, and returns the one that it followed. Behind it stands none,
-    /// so nothing that follows is read or written.
-    #[inline(always)]
-    #[tactic(auto, using(crate::proofs::Blocks::length_nodes, crate::proofs::Blocks::placed_filled))]
-    pub fn cut_last(&mut self, id: ForkId) -> Link
-        requires block { IsBlock self.old }
-        requires within { id.number < length (block_nodes self.old) }
-        requires last { (node_at (block_nodes self.old) id).all.next ≡ None }
-        ensures block { IsSameBlock self.old self.new }
-        ensures previous { result ≡ (node_at (block_nodes self.old) id).all.previous }
-        ensures nodes { block_nodes self.new ≡ cut_nodes_in None
-            (node_at (block_nodes self.old) id).all (block_nodes self.old) }
-    {
-        let back = self.cells.at(self.place(id.number)).all.previous;
-        let nowhere = self.place(self.room);
-        self.set_next(None, back, nowhere);
-        self.id_at(back)
     }
 
     /// Takes a block for so many records, of which none is given yet.
     ///
-    /// The last place alone is written. It stands for none, and so does its number: a link to it is a copy.
+    /// The cells of the last place alone are written. It stands for none.
     pub fn new(alloc: Global, room: u32) -> Result<Block, AllocError>
         requires { room ≤ 65536 }
         ensures block { IfOk result (λ b. IsBlock b) }
@@ -306,9 +342,12 @@ impl Block {
         ensures room { IfOk result (λ b. b.room ≡ room) }
     {
         let places = room as usize + 1;
-        let (base, mut cells, lease) = allocate(&alloc, places)?;
+        let (base, mut cells, lease) = allocate(&alloc, places + places + places)?;
         let nowhere = cells.place(base, room as usize);
-        cells.write(base, room as usize, Cell::vacant(u32::MAX, nowhere));
+        let none = Cell::vacant(room, nowhere);
+        cells.write(base, room as usize, none);
+        cells.write(base, places + room as usize, none);
+        cells.write(base, places + places + room as usize, none);
         Ok(Block {
             base,
             cells,
@@ -330,9 +369,13 @@ impl Block {
             ≡ block_nodes self.old ++ blank_node (length (block_nodes self.old)) ∷ [] }
     {
         let number = self.given;
-        let nowhere = self.place(self.room);
+        let places = self.room as usize + 1;
+        let vacant = Cell::vacant(number, self.place(Part::Next, self.room));
+        self.cells.write(self.base, number as usize, vacant);
         self.cells
-            .write(self.base, number as usize, Cell::vacant(number, nowhere));
+            .write(self.base, places + number as usize, vacant);
+        self.cells
+            .write(self.base, places + places + number as usize, vacant);
         self.given = number + 1;
         ForkId { number }
     }
@@ -366,6 +409,7 @@ impl Block {
             room,
             given: _,
         } = self;
-        deallocate(&alloc, base, room as usize + 1, cells, lease);
+        let places = room as usize + 1;
+        deallocate(&alloc, base, places + places + places, cells, lease);
     }
 }

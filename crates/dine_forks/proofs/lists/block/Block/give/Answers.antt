@@ -1,18 +1,48 @@
-use Rattle.dine_forks.proofs.Words.{AreCells, AreLeft, Cell, InBlock, List, Option, Ptr, Some, ap, arith, length, length-set, set, subst, sym, vacant_cell, ◌+◌, ◌∙◌}
-use Rattle.dine_forks.proofs.Blocks.{given-cells, given-left, given-nodes, length_nodes}
+use Rattle.dine_forks.proofs.Words.{get_or, get_or-set_other, length-set, AreCells, AreLeft, Cell, InBlock, List, None, Option, Ptr, Some, ap, arith, length, set, subst, sym, ◌≡◌, ◌+◌, ◌∙◌, blank_node, block_nodes, cell_index, nodes_from, vacant_cell, ◌++◌, ◌∷◌, []}
+use Rattle.dine_forks.proofs.Blocks.{given-cells, given-left, given-nodes, length-three, length_nodes, with_three}
+use Rattle.dine_forks.specs.declared.lists.block.Part.TheVariants as part
+use Rattle.dine_forks.proofs.lists.block.Block.give.Goals.{After-write-3}
 use Rattle.dine_forks.proofs.lists.block.Block.give.Goals as goal
+
+-- the cells once all three are written
+slots : (c : After-write-3) → let b = c.args.self.now in c.write-3.new.self.slots ≡ with_three b.room b.cells.slots b.given (vacant_cell c.place.result b.given)
+slots c =
+    let b = c.args.self.now in
+    c.write-3.ensures.1 ∙ (λ j. set ((c.write-2.ensures.1 ∙ (λ k. set (c.write.ensures.1 k) (b.room + 1 + b.given) (Some c.vacant-vacant.result))) j) (b.room + 1 + (b.room + 1) + b.given) (Some c.vacant-vacant.result))
+    ∙ ap (with_three b.room b.cells.slots b.given) c.vacant-vacant.ensures
+
+-- they lie where they did
+same : (c : After-write-3) → c.write-3.new.self.at ≡ c.args.self.now.cells.at
+same c = c.write-3.ensures.0 ∙ c.write-2.ensures.0 ∙ c.write.ensures.0
+
+pub write-requires-2 : goal.write-requires-2
+write-requires-2 c =
+    let b = c.args.self.now in let h = c.requires.block in let lt = c.requires.left in let new = c.write.ensures in
+    let long = ap length new.1 ∙ length-set b.cells.slots b.given (Some c.vacant-vacant.result) ∙ h.places in
+    let empty = ap (λ (cs : List (Option Cell)). get_or cs (b.room + 1 + b.given) None) new.1 ∙ get_or-set_other b.cells.slots b.given (b.room + 1 + b.given) (Some c.vacant-vacant.result) None (λ e. let k = e in absurd (omega arith)) ∙ h.left part.Previous b.given (omega arith) lt in
+    (sym (new.0 ∙ h.owned.0), omega arith, empty)
+
+pub write-requires-3 : goal.write-requires-3
+write-requires-3 c =
+    let b = c.args.self.now in let h = c.requires.block in let lt = c.requires.left in let one = c.write.ensures in let two = c.write-2.ensures in let cell = Some c.vacant-vacant.result in let all = b.room + 1 + (b.room + 1) + b.given in
+    let long = ap length (two.1 ∙ (λ j. set (one.1 j) (b.room + 1 + b.given) cell)) ∙ length-set (set b.cells.slots b.given cell) (b.room + 1 + b.given) cell ∙ length-set b.cells.slots b.given cell ∙ h.places in
+    let empty = ap (λ (cs : List (Option Cell)). get_or cs all None) (two.1 ∙ (λ j. set (one.1 j) (b.room + 1 + b.given) cell)) ∙ get_or-set_other (set b.cells.slots b.given cell) (b.room + 1 + b.given) all cell None (λ e. let k = e in absurd (omega arith)) ∙ get_or-set_other b.cells.slots b.given all cell None (λ e. let k = e in absurd (omega arith)) ∙ h.left part.All b.given (omega arith) lt in
+    (sym (two.0 ∙ one.0 ∙ h.owned.0), omega arith, empty)
 
 pub returns-clause-block : goal.returns-clause-block
 returns-clause-block c =
     let b = c.args.self.now in let h = c.requires.block in let lt = c.requires.left in
-    let at = c.write.ensures.0 in let cell = Some (vacant_cell c.place-nowhere.result b.given) in
-    let slots = c.write.ensures.1 ∙ ap (λ (x : Cell). set b.cells.slots b.given (Some x)) c.vacant.ensures in
-    let cells = subst (λ (k : Ptr × List (Option Cell)). AreCells k.0 b.room (b.given + 1) k.1) (λ j. (sym at j, sym slots j)) (given-cells b.cells.at c.place-nowhere.result b.room b.given b.cells.slots h.begins c.place-nowhere.ensures lt h.places h.cells) in
-    let left = subst (AreLeft b.room (b.given + 1)) (sym slots) (given-left b.room b.given b.cells.slots cell h.left) in
-    record { owned = (at ∙ h.owned.0, h.owned.1, h.owned.2, h.owned.3); begins = subst InBlock (sym at) h.begins; places = ap length slots ∙ length-set b.cells.slots b.given cell ∙ h.places; few = h.few; fits = omega arith; cells = cells; left = left }
+    let all = (goal.at.returns-clause-block c).After-write-3 in let at = same all in let is = slots all in
+    let cells = subst (λ (k : Ptr × List (Option Cell)). AreCells k.0 b.room (b.given + 1) k.1) (λ j. (sym at j, sym is j)) (given-cells b.cells.at c.place.result b.room b.given b.cells.slots h.begins h.few c.place.ensures lt h.places h.cells) in
+    let left = subst (AreLeft b.room (b.given + 1)) (sym is) (given-left b.cells.at c.place.result b.room b.given b.cells.slots h.begins h.few c.place.ensures lt h.places h.left) in
+    record { owned = (at ∙ h.owned.0, h.owned.1, h.owned.2, h.owned.3); begins = subst InBlock (sym at) h.begins; places = ap length is ∙ length-three b.room b.cells.slots h.places b.given (omega arith) (vacant_cell c.place.result b.given); few = h.few; fits = omega arith; cells = cells; left = left }
 
 pub returns-clause-id : goal.returns-clause-id
 returns-clause-id c = sym (length_nodes c.args.self.now c.requires.block)
 
 pub returns-clause-nodes : goal.returns-clause-nodes
-returns-clause-nodes c = let b = c.args.self.now in grind (arith, given-nodes b.cells.at c.place-nowhere.result b.room b.given b.cells.slots, length_nodes b c.requires.block)
+returns-clause-nodes c =
+    let b = c.args.self.now in let h = c.requires.block in let lt = c.requires.left in
+    let all = (goal.at.returns-clause-nodes c).After-write-3 in
+    (λ j. nodes_from (same all j) b.room (slots all j) 0 (b.given + 1)) ∙ given-nodes b.cells.at c.place.result b.room b.given b.cells.slots h.begins h.few c.place.ensures lt h.places
+    ∙ ap (λ n. block_nodes b ++ blank_node n ∷ []) (sym (length_nodes b h))

@@ -1,9 +1,0 @@
-use Rattle.dine_forks.proofs.Words.{arith, get_or_default}
-use Rattle.dine_forks.proofs.Steps.{onward-is, within_steps}
-use Rattle.dine_forks.proofs.lists.records.Records.onward.Goals as goal
-
-pub index-requires : goal.index-requires
-index-requires c = grind (arith, within_steps c.self.inside c.args.self.now c.self.view_is c.self.invariant c.args.id c.requires)
-
-pub returns : goal.returns
-returns c = grind (arith, get_or_default, within_steps c.self.inside c.args.self.now c.self.view_is c.self.invariant c.args.id c.requires, onward-is c.self.inside c.args.self.now c.self.view_is c.self.invariant c.args.slot c.args.id c.requires)
