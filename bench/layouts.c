@@ -1,5 +1,5 @@
 /* Walks over the conflicts of tasks, whose records lie at random places: records that hang by pointers, as in the block
-   of the book of forks, beside records that name each other by numbers. (Walks of that book read a row beside the block.)
+   of the book of forks, beside records that name each other by numbers. (A record of that book is three cells of 24 bytes.)
 
        cc -O2 -o /tmp/layouts bench/layouts.c && /tmp/layouts [records] [slots] [rounds] [repeats]
 
