@@ -6,7 +6,7 @@ ghost use Rattle.std.specs.Prelude.{◌≡◌, ℕ, ◌+◌, ◌*◌, ◌==◌, 
 ghost use Rattle.std.specs.List.{sum_by};
 ghost use Rattle.dine_forks.specs.Asking.{CanAskAround, HasAsked, IsAsking, IsTiedBefore, IsWalking, asking_messages, settled_book, writes_of};
 ghost use Rattle.dine_forks.specs.Asking.{answer_messages, answered};
-ghost use Rattle.dine_forks.specs.Book.{book_with_fork, is_in_use, record_of, slot_list, with_token};
+ghost use Rattle.dine_forks.specs.Book.{book_with_fork, dirtied, is_in_use, record_of, slot_list, with_token};
 ghost use Rattle.dine_forks.specs.Counts.{askeds, count_at, lackeds, with_more};
 ghost use Rattle.dine_forks.specs.Edges.{is_first};
 ghost use Rattle.dine_forks.specs.Marks.{IsTied, seen_book, seen_record};
@@ -164,11 +164,7 @@ fn ask_at<H: Holders>(
         hear(lists, counts, marks, at, end, answer, asked);
         asked.left -= 1;
     } else if soiled {
-        let dirty = Fork {
-            dirty: true,
-            ..at.visited.fork
-        };
-        lists.write(at.id, dirty);
+        soil(lists, at.id, at.visited);
         asked.left -= 1;
     }
     onward
@@ -207,7 +203,8 @@ fn hear(
             change(counts, other, Count::NONE, Count::ASKED);
         }
         Response::GivesIfDirty => {
-            let is_dirty = at.visited.fork.dirty | marks[other as usize];
+            let written = is_written_dirty(lists, at.id, at.visited);
+            let is_dirty = written | marks[other as usize];
             if is_dirty {
                 let fork = Fork {
                     at_first: is_first,
@@ -232,6 +229,29 @@ fn hear(
             asked.forks += 1;
         }
     }
+}
+
+// Whether the fork of a record is written dirty. That is read where it is asked, so that no other step takes it out of the
+// record's label.
+#[inline(always)]
+fn is_written_dirty(lists: &Lists, id: ForkId, visited: ForkRecord) -> bool
+    requires found { record_of id lists.now.records ≡ Some visited }
+    ensures { result ≡ visited.fork.dirty }
+{
+    lists.record(id).fork.dirty
+}
+
+// Writes the fork of a record dirty. Its token is read here, as the dirt above.
+#[inline(always)]
+fn soil(lists: &mut Lists, id: ForkId, visited: ForkRecord)
+    requires found { record_of id lists.old.records ≡ Some visited }
+    ensures { lists.new ≡ book_with_fork id (dirtied visited.fork) lists.old }
+{
+    let dirty = Fork {
+        dirty: true,
+        ..lists.record(id).fork
+    };
+    lists.write(id, dirty);
 }
 
 // Sends the request token of a record to its first end or to its second.

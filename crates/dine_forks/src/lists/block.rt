@@ -47,16 +47,16 @@ pub struct Hook {
     next: Place,
 }
 
-// The label of a record: its number in the lowest 24 bits, and above it a bit for each thing that is told of its fork.
+// The label of a record: a bit for each thing that is told of its fork, and above these eight bits its number.
 #[inline(always)]
 fn label(number: u32, fork: Fork) -> u32
     requires { number ≤ 65536 }
     ensures { result ≡ label_of number fork }
 {
-    let at_first = if fork.at_first { 16_777_216 } else { 0 };
-    let dirty = if fork.dirty { 33_554_432 } else { 0 };
-    let token = if fork.token_first { 67_108_864 } else { 0 };
-    number + at_first + dirty + token
+    let at_first = if fork.at_first { 1 } else { 0 };
+    let dirty = if fork.dirty { 2 } else { 0 };
+    let token = if fork.token_first { 4 } else { 0 };
+    number * 256 + at_first + dirty + token
 }
 
 impl Cell {
@@ -71,7 +71,7 @@ impl Cell {
             two: nowhere,
             first: 0,
             second: 0,
-            label: number,
+            label: number * 256,
         }
     }
 
@@ -100,7 +100,7 @@ impl Cell {
     fn number(&self) -> u32
         ensures { result ≡ number_in self.now.label }
     {
-        self.label % 16_777_216
+        self.label / 256
     }
 
     // The fork of the record.
@@ -109,9 +109,9 @@ impl Cell {
         ensures { result ≡ fork_in self.now.label }
     {
         Fork {
-            at_first: self.label / 16_777_216 % 2 == 1,
-            dirty: self.label / 33_554_432 % 2 == 1,
-            token_first: self.label / 67_108_864 % 2 == 1,
+            at_first: self.label % 2 == 1,
+            dirty: self.label / 2 % 2 == 1,
+            token_first: self.label / 4 % 2 == 1,
         }
     }
 }

@@ -2,7 +2,6 @@ use Rattle.dine_forks.proofs.Words.{◌≡◌, ◌+◌, beq, not, List, refl, sy
 use Rattle.dine_forks.proofs.Asking.{asked-has, asked-lacks, dirt-seen, dirt-tied, found-seen}
 use Rattle.dine_forks.proofs.Linking.{ends_of_used, other_end_of_used}
 use Rattle.dine_forks.proofs.Seen.{once-seen}
-use Rattle.dine_forks.proofs.Records.{found-used}
 use Rattle.dine_forks.proofs.Walks.{with_fork-same}
 use Rattle.dine_forks.proofs.ask.ask_at.Goals as goal
 
@@ -37,9 +36,6 @@ returns-then-at-is_first g c =
       next = c.onward-onward.ensures;
     }
 
-pub write-requires : goal.write-requires
-write-requires g c = found-used c.args.at.now.id c.args.lists.now.records c.args.at.now.visited c.requires.asking.walking.listed.found
-
 pub overflow_sub-asked-then-soiled : goal.overflow_sub-asked-then-soiled
 overflow_sub-asked-then-soiled g c =
     let has : c.args.at.now.visited.fork.at_first ≡ c.is_first.result = grind (arith, beq, c.if-at-is_first.false) in
@@ -57,8 +53,8 @@ returns-then-soiled g c =
     let dirt : settled_fork c.args.soiled (g.H.Holders.answers c.args.holders.now) c.args.at.now.slot (seen_record marks r) ≡ dirtied (seen_record marks r).fork = own.0 ∙ (rw c.if-soiled.true refl) in
     let some = c.requires.asking.left in
     record {
-      tied = rw c.write.ensures (dirt-tied c.args.at.now.slot c.args.asked.now.forks c.args.asked.now.tokens lists c.args.counts.now marks c.args.at.now.id r asking.tied asking.sound.each_id_once asking.listed.found);
-      book = rw c.write.ensures ((λ j. record (seen_book marks lists) { records = dirt-seen marks c.args.at.now.id lists.records r asking.sound.each_id_once asking.listed.found j }) ∙ ap (λ f. book_with_fork c.args.at.now.id f (seen_book marks lists)) (sym dirt));
+      tied = rw c.soil.ensures (dirt-tied c.args.at.now.slot c.args.asked.now.forks c.args.asked.now.tokens lists c.args.counts.now marks c.args.at.now.id r asking.tied asking.sound.each_id_once asking.listed.found);
+      book = rw c.soil.ensures ((λ j. record (seen_book marks lists) { records = dirt-seen marks c.args.at.now.id lists.records r asking.sound.each_id_once asking.listed.found j }) ∙ ap (λ f. book_with_fork c.args.at.now.id f (seen_book marks lists)) (sym dirt));
       messages = rw (own.1, own.2) refl;
       left = omega arith;
       next = c.onward-onward.ensures;

@@ -120,11 +120,11 @@ pub returns-then-is_dirty-clause-book : goal.returns-then-is_dirty-clause-book
 returns-then-is_dirty-clause-book c =
     let at = (goal.at.returns-then-is_dirty-clause-book c).After-other-other in
     let here = seen-same (λ (r : ForkRecord). r.fork.token_first) c.args.marks.now c.args.at.now.visited refl ∙ token at in
-    let cross = fork-crossed (seen at) c.is_first-is_first.result (seen_away at) here (dirt at ∙ c.if-is_dirty.true) ∙ ap (λ a. answered a (seen at)) (sym c.in-GivesIfDirty.is) in
+    let cross = fork-crossed (seen at) c.is_first-is_first.result (seen_away at) here (dirt at ∙ ap (λ d. d || is_marked c.args.marks.now c.other-other.result) (sym c.is_written_dirty-written.ensures) ∙ c.if-is_dirty.true) ∙ ap (λ a. answered a (seen at)) (sym c.in-GivesIfDirty.is) in
     rw (c.send_fork.ensures.lists, (can at (crossed at) refl).seen) (ap (λ f. book_with_fork c.args.at.now.id f (seen_book c.args.marks.now c.args.lists.now)) cross)
 
 pub send_clean_token-requires-clause-clean : goal.send_clean_token-requires-clause-clean
-send_clean_token-requires-clause-clean c = (or_parts c.args.at.now.visited.fork.dirty (is_marked c.args.marks.now c.other-other.result) c.if-is_dirty.false).0
+send_clean_token-requires-clause-clean c = (or_parts c.args.at.now.visited.fork.dirty (is_marked c.args.marks.now c.other-other.result) (ap (λ d. d || is_marked c.args.marks.now c.other-other.result) (sym c.is_written_dirty-written.ensures) ∙ c.if-is_dirty.false)).0
 
 pub returns-else-is_dirty-clause-tied : goal.returns-else-is_dirty-clause-tied
 returns-else-is_dirty-clause-tied c =
@@ -139,7 +139,7 @@ returns-else-is_dirty-clause-tied c =
 pub returns-else-is_dirty-clause-book : goal.returns-else-is_dirty-clause-book
 returns-else-is_dirty-clause-book c =
     let at = (goal.at.returns-else-is_dirty-clause-book c).After-other-other in
-    let kept = clean-kept (seen at) c.is_first-is_first.result (seen_away at) (dirt at ∙ c.if-is_dirty.false) ∙ ap (λ a. answered a (seen at)) (sym c.in-GivesIfDirty.is) in
+    let kept = clean-kept (seen at) c.is_first-is_first.result (seen_away at) (dirt at ∙ ap (λ d. d || is_marked c.args.marks.now c.other-other.result) (sym c.is_written_dirty-written.ensures) ∙ c.if-is_dirty.false) ∙ ap (λ a. answered a (seen at)) (sym c.in-GivesIfDirty.is) in
     ap (seen_book c.args.marks.now) c.send_clean_token.ensures ∙ sent at _ kept
 
 pub returns-in-Keeps-clause-tied : goal.returns-in-Keeps-clause-tied
@@ -162,4 +162,4 @@ pub returns-in-Gives-clause-messages : goal.returns-in-Gives-clause-messages
 returns-in-Gives-clause-messages c = rw c.in-Gives.is (omega arith)
 
 pub returns-then-is_dirty-clause-messages : goal.returns-then-is_dirty-clause-messages
-returns-then-is_dirty-clause-messages c = rw (c.in-GivesIfDirty.is, dirt (goal.at.returns-then-is_dirty-clause-messages c).After-other-other ∙ c.if-is_dirty.true) (omega arith)
+returns-then-is_dirty-clause-messages c = rw (c.in-GivesIfDirty.is, dirt (goal.at.returns-then-is_dirty-clause-messages c).After-other-other ∙ ap (λ d. d || is_marked c.args.marks.now c.other-other.result) (sym c.is_written_dirty-written.ensures) ∙ c.if-is_dirty.true) (omega arith)
