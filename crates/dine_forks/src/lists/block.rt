@@ -9,9 +9,10 @@
 //! Four functions follow or change links: `read`, `write`, `hang` and `cut`.
 
 ghost use Rattle.std.specs.Prelude.{◌≡◌, ◌==◌, ◌+◌, ◌<◌, if◌then◌else◌, Some, None, ◌≤◌, ◌++◌, ◌∷◌, [], length, IfOk};
-ghost use Rattle.dine_forks.specs.Lists.{CanHang, HasPlace, cut_nodes_in, hung_nodes_in, links_in, node_at, put_next_in, put_previous_in, record_at, renewed_nodes};
+ghost use Rattle.dine_forks.specs.Lists.{CanHang, cut_nodes_in, hung_nodes_in, links_in, node_at, put_links_in, put_next_in, put_previous_in, record_at, renewed_nodes};
 ghost use Rattle.dine_forks.specs.Book.{id_below};
 ghost use Rattle.dine_forks.specs.Blocks.{IsBlock, IsIn, IsSameBlock, IsWritten, blank_node, block_nodes, cell_place, fork_in, label_of};
+ghost use Rattle.dine_forks.specs.declared.lists.block.Part.TheVariants as part;
 ghost use Rattle.dine_forks.specs.Blocks.{link_in, linked_id, number_at, number_in, number_or, put_link, vacant_cell, with_pointer};
 
 use super::Links;
@@ -154,16 +155,15 @@ impl Block {
         self.cells.at(place).number()
     }
 
-    // Whether a slot that is an end of a record is the first one.
+    // Whether a slot that is an end of the record at a place is the first one.
     #[inline(always)]
-    fn is_first(&self, slot: u32, number: u32) -> bool
+    fn is_first(&self, slot: u32, at: Place) -> bool
         requires block { IsBlock self.now }
-        requires written { IsWritten self.now.room self.now.given number }
-        ensures { number < self.now.given → result
-            ≡ (slot == (node_at (block_nodes self.now) record { number = number }).content.first) }
+        requires within { IsIn self.now.cells.at self.now.room self.now.given at }
+        ensures { let number = number_at self.now.cells.at at.ptr in number < self.now.given →
+            result ≡ (slot == (node_at (block_nodes self.now) record { number = number }).content.first) }
     {
-        let cell = self.cells.at(self.place(Part::Next, number));
-        slot == cell.first as u32
+        slot == self.cells.at(at).first as u32
     }
 
     // One of the two pointers of a cell.
@@ -194,41 +194,87 @@ impl Block {
         cell.set_pointer(one, pointer);
     }
 
-    // What follows a record in a list is the record at the place, or none.
+    // Puts one of the two pointers of the cell at a place, which walks read.
     #[inline(always)]
-    fn set_next(&mut self, list: Option<u32>, number: u32, next: Place)
+    fn set_at(&mut self, at: Place, one: bool, pointer: Place)
         requires block { IsBlock self.old }
-        requires written { IsWritten self.old.room self.old.given number }
+        requires within { IsIn self.old.cells.at self.old.room self.old.given at }
+        requires pointer { IsIn self.old.cells.at self.old.room self.old.given pointer }
+        ensures block { IsSameBlock self.old self.new }
+        ensures nodes { block_nodes self.new
+            ≡ put_link part.Next one (linked_id self.old.cells.at self.old.room at)
+            (linked_id self.old.cells.at self.old.room pointer) (block_nodes self.old) }
+    {
+        let cell = self.cells.at_mut(at);
+        cell.set_pointer(one, pointer);
+    }
+
+    // What follows the record at a place, of this number, in a list is the record at the other place, or none.
+    #[inline(always)]
+    fn set_next(&mut self, list: Option<u32>, at: Place, number: u32, next: Place)
+        requires block { IsBlock self.old }
+        requires within { IsIn self.old.cells.at self.old.room self.old.given at }
+        requires number { number ≡ number_at self.old.cells.at at.ptr }
         requires next { IsIn self.old.cells.at self.old.room self.old.given next }
         ensures block { IsSameBlock self.old self.new }
-        ensures nodes { block_nodes self.new ≡ put_next_in list (id_below self.old.room number)
+        ensures nodes { block_nodes self.new
+            ≡ put_next_in list (linked_id self.old.cells.at self.old.room at)
             (linked_id self.old.cells.at self.old.room next) (block_nodes self.old) }
     {
         match list {
             Some(slot) => {
-                let one = self.is_first(slot, number);
-                self.set_pointer(Part::Next, number, one, next);
+                let one = self.is_first(slot, at);
+                self.set_at(at, one, next);
             }
             None => self.set_pointer(Part::All, number, false, next),
         }
     }
 
-    // What a record follows in a list is the record at the place, or none.
+    // What the record at a place, of this number, follows in a list is the record at the other place, or none.
     #[inline(always)]
-    fn set_previous(&mut self, list: Option<u32>, number: u32, previous: Place)
+    fn set_previous(&mut self, list: Option<u32>, at: Place, number: u32, previous: Place)
         requires block { IsBlock self.old }
-        requires written { IsWritten self.old.room self.old.given number }
+        requires within { IsIn self.old.cells.at self.old.room self.old.given at }
+        requires number { number ≡ number_at self.old.cells.at at.ptr }
         requires previous { IsIn self.old.cells.at self.old.room self.old.given previous }
         ensures block { IsSameBlock self.old self.new }
-        ensures nodes { block_nodes self.new ≡ put_previous_in list (id_below self.old.room number)
+        ensures nodes { block_nodes self.new
+            ≡ put_previous_in list (linked_id self.old.cells.at self.old.room at)
             (linked_id self.old.cells.at self.old.room previous) (block_nodes self.old) }
     {
         match list {
             Some(slot) => {
-                let one = self.is_first(slot, number);
+                let one = self.is_first(slot, at);
                 self.set_pointer(Part::Previous, number, one, previous);
             }
             None => self.set_pointer(Part::All, number, true, previous),
+        }
+    }
+
+    // The record at a place, of this number, stands behind the one at a place in a list, and is the last there.
+    #[inline(always)]
+    fn set_last(&mut self, list: Option<u32>, at: Place, id: ForkId, back: Place, nowhere: Place)
+        requires block { IsBlock self.old }
+        requires within { id.number < length (block_nodes self.old) }
+        requires at { at.ptr ≡ cell_place self.old.cells.at self.old.room part.Next id.number }
+        requires back { IsIn self.old.cells.at self.old.room self.old.given back }
+        requires nowhere { nowhere.ptr
+            ≡ cell_place self.old.cells.at self.old.room part.Next self.old.room }
+        ensures block { IsSameBlock self.old self.new }
+        ensures nodes { block_nodes self.new ≡ put_links_in list id
+            record { previous = linked_id self.old.cells.at self.old.room back; next = None }
+            (block_nodes self.old) }
+    {
+        match list {
+            Some(slot) => {
+                let one = self.is_first(slot, at);
+                self.set_pointer(Part::Previous, id.number, one, back);
+                self.set_at(at, one, nowhere);
+            }
+            None => {
+                self.set_pointer(Part::All, id.number, true, back);
+                self.set_pointer(Part::All, id.number, false, nowhere);
+            }
         }
     }
 
@@ -246,7 +292,7 @@ impl Block {
     {
         match list {
             Some(slot) => {
-                let one = self.is_first(slot, number);
+                let one = self.is_first(slot, self.place(Part::Next, number));
                 Hook {
                     previous: self.pointer(Part::Previous, number, one),
                     next: self.pointer(Part::Next, number, one),
@@ -306,9 +352,8 @@ impl Block {
         let place = self.place(Part::Next, id.number);
         let back = self.place(Part::Next, behind);
         let nowhere = self.place(Part::Next, self.room);
-        self.set_previous(list, id.number, back);
-        self.set_next(list, id.number, nowhere);
-        self.set_next(list, behind, place);
+        self.set_last(list, place, id, back, nowhere);
+        self.set_next(list, back, behind, place);
     }
 
     /// Cuts a record out of a list, and returns its neighbours there.
@@ -324,8 +369,8 @@ impl Block {
         let hook = self.hook(list, id.number);
         let previous = self.number_of(hook.previous);
         let next = self.number_of(hook.next);
-        self.set_next(list, previous, hook.next);
-        self.set_previous(list, next, hook.previous);
+        self.set_next(list, hook.previous, previous, hook.next);
+        self.set_previous(list, hook.next, next, hook.previous);
         Links {
             previous: Link::below(self.room, previous),
             next: Link::below(self.room, next),
