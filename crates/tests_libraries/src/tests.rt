@@ -3,9 +3,7 @@
 mod bars;
 mod inputs;
 mod journal;
-mod replay;
 mod same;
 mod slots;
 mod two_tables;
-mod views;
 mod words;

@@ -18,7 +18,7 @@ struct Case {
     steps: &'static str,
 }
 
-const CASES: [Case; 14] = [
+const CASES: [Case; 11] = [
     Case {
         name: "a neighbour waits for the meal",
         limits: (64, 256),
@@ -26,14 +26,6 @@ const CASES: [Case; 14] = [
             conflict 0.0 1.1 -> done; hungry 0.0 -> done, 2; begin 0.0 -> done; \
             hungry 1.1 -> done, 1; begin 1.1 -> refused not-yet; finish 0.0 -> done, 1; \
             begin 1.1 -> done; state 1.1 -> eating; ready 1.1 -> no; clock -> 3; tasks -> 64",
-    },
-    Case {
-        name: "a meal is placed by its end",
-        limits: (64, 256),
-        steps: "join -> joined 0.0; join -> joined 1.1; hungry 0.0 -> done; begin 0.0 -> done; \
-            hungry 1.1 -> done; begin 1.1 -> done; finish 1.1 -> done; conflict 0.0 1.1 -> done; \
-            hungry 1.1 -> done, 1; begin 1.1 -> refused not-yet; finish 0.0 -> done, 1; \
-            hungry 0.0 -> done, 1; begin 0.0 -> refused not-yet; begin 1.1 -> done",
     },
     Case {
         name: "a book lends a record for each conflict, and a task is told its neighbours",
@@ -52,27 +44,6 @@ const CASES: [Case; 14] = [
             hungry 0.0 -> done, 4; hungry 1.1 -> done, 3; hungry 2.2 -> done, 3; \
             hungry 3.3 -> done, 3; hungry 4.4 -> done, 2; next -> 0.0; begin 0.0 -> done; \
             next -> none",
-    },
-    // The first meal ends where nobody is hungry, the second where a stranger is, the third where the neighbour is too.
-    Case {
-        name: "a meal that ends sends forks to hungry neighbours alone",
-        limits: (64, 256),
-        steps: "join -> joined 0.0; join -> joined 1.1; join -> joined 2.2; \
-            conflict 0.0 1.1 -> done; hungry 0.0 -> done, 2; begin 0.0 -> done; \
-            finish 0.0 -> done; hungry 2.2 -> done; hungry 0.0 -> done; begin 0.0 -> done; \
-            finish 0.0 -> done; hungry 0.0 -> done; begin 0.0 -> done; hungry 1.1 -> done, 1; \
-            finish 0.0 -> done, 1; begin 1.1 -> done; finish 1.1 -> done; begin 2.2 -> done; \
-            finish 2.2 -> done",
-    },
-    Case {
-        name: "a slot is used again under a new name",
-        limits: (2, 1),
-        steps: "join -> joined 0.0; join -> joined 1.1; join -> refused full; \
-            conflict 0.0 1.1 -> done; hungry 0.0 -> done, 2; leave 0.0 -> refused hungry; \
-            leave 1.1 -> done; join -> joined 1.2; leave 1.1 -> refused unknown; \
-            conflict 0.0 2.2 -> refused unknown; separate 0.0 1.2 -> refused apart; \
-            conflict 1.2 0.0 -> done, 2; separate 0.0 1.2 -> done; conflict 0.0 1.2 -> done, 2; \
-            conflict 1.1 0.0 -> refused unknown",
     },
     Case {
         name: "a slot tells the task that sits there",

@@ -1,7 +1,6 @@
 //! Journals of fronts that are closed, audited as texts.
 
 use crate::tests::same::same;
-use dine_front::{Front, Naming, Pass, Verdict};
 use dine_journal::Journal;
 use dine_replay::check_text;
 use dine_words::Marked;
@@ -20,22 +19,4 @@ pub fn is_audited(rt: &impl Machine, journal: &Journal) {
     let checked = check_text(rt.alloc(), &text_of(rt, journal));
     let entries = checked.ok().map(|checked| checked.entries);
     same(rt, entries, Some(journal.len()));
-}
-
-// How many calls the passes made.
-fn calls_of<J: Naming>(passes: &[Pass<J>]) -> u64 {
-    let mut calls = 0u64;
-    for pass in passes {
-        calls = calls.saturating_add(pass.count());
-    }
-    calls
-}
-
-/// Closes a front, which is settled after the calls that its passes made.
-pub fn closes<J: Naming>(rt: &impl Machine, front: Front<J>, passes: Vec<Pass<J>>) {
-    let calls = calls_of(&passes);
-    let closed = front.close(rt, passes);
-    let found = (closed.verdict, closed.journal.len());
-    same(rt, found, (Verdict::Settled, calls));
-    is_audited(rt, &closed.journal);
 }

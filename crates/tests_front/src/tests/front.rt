@@ -2,39 +2,40 @@
 
 use crate::tests::audited::is_audited;
 use crate::tests::same::{same, same_in};
-use crate::tests::threads::{Outcome, Part, side_by_side};
+use crate::tests::threads::{Part, Tally, side_by_side};
 use crate::tests::visit::{Visit, from, visit_a_front};
 use dine_front::{Front, FrontFault, Naming, OpenFault, Opened, Pass, Verdict};
 use dine_journal::Answer;
-use dine_words::{Call, Entry, Refusal, Reply, State, Task};
+use dine_words::{Call, Entry, Reply, Task};
 use std::process::Abort;
-use tests_kit::{LIMITS, Machine};
+use tests_kit::{A, B, LIMITS, Machine};
 
-// What is done after the steps: two threads do their parts, and this comes of them; or each pass joins a task, and they are
-// turned round.
+/// What is done after the steps.
 #[derive(Clone, Copy)]
-enum Then {
+pub(crate) enum Then {
     Nothing,
-    SideBySide([Part; 2], [Outcome; 2]),
+    /// A thread for each pass does its part, and this comes of it.
+    SideBySide(&'static [Part], Tally),
+    /// Each pass joins a task, and they are turned round.
     JoinByEach,
 }
 
-// What a row shows; the steps at a front, the number of a pass before each: an entry, whose call is made; `in-turn` with a task
-// and the answer; `look` with a task and what is seen; or `stop`. Then what is done in threads, how many calls each pass made,
-// the passes that are held back where the front is closed, and the verdict.
+/// What a row shows; the steps at a front, the number of a pass before each: an entry, whose call is made; `in-turn` with a task
+/// and the answer; `look` with a task and what is seen; or `stop`. Then what is done in threads, how many calls each pass made,
+/// the passes that are held back where the front is closed, and the verdict.
 #[derive(Clone, Copy)]
 pub(crate) struct Case {
-    name: &'static str,
-    has_looks: bool,
-    steps: &'static str,
-    then: Then,
-    counts: &'static [u64],
-    held_back: &'static [u32],
-    verdict: Verdict,
+    pub name: &'static str,
+    pub has_looks: bool,
+    pub steps: &'static str,
+    pub then: Then,
+    pub counts: &'static [u64],
+    pub held_back: &'static [u32],
+    pub verdict: Verdict,
 }
 
-// With nothing done, at a front of no pass.
-const SETTLED: Case = Case {
+/// With nothing done, at a front of no pass.
+pub(crate) const SETTLED: Case = Case {
     name: "",
     has_looks: true,
     steps: "",
@@ -123,42 +124,17 @@ fn a_front_answers_one_thread(rt: HostRuntime) {
     }
 }
 
-// The steps of two in conflict, and of the same once the first eats and the second is hungry.
-const TWO_IN_CONFLICT: &str =
-    "0 join -> joined 0.0; 0 join -> joined 1.1; 0 conflict 0.0 1.1 -> done";
-
-const THE_FIRST_EATS: &str = "0 join -> joined 0.0; 0 join -> joined 1.1; \
-    0 conflict 0.0 1.1 -> done; 0 hungry 0.0 -> done; 0 begin 0.0 -> done; 0 hungry 1.1 -> done";
-
-const REFUSED: Answer = Answer {
-    place: 7,
-    reply: Reply::Refused(Refusal::WrongState(State::Thinking)),
-};
-
-const IN_THREADS: [Case; 3] = [
+const IN_THREADS: [Case; 2] = [
     Case {
         name: "two threads eat by turns",
-        steps: TWO_IN_CONFLICT,
-        then: Then::SideBySide(
-            [Part::Eat(0), Part::Eat(1)],
-            [(300, 100, None), (300, 100, None)],
-        ),
+        steps: "0 join -> joined 0.0; 0 join -> joined 1.1; 0 conflict 0.0 1.1 -> done",
+        then: Then::SideBySide(&[Part::Eat(A), Part::Eat(B)], [200, 600, 0, 0, 0, 181_500]),
         counts: &[303, 300],
         ..SETTLED
     },
     Case {
-        name: "a withdrawal wakes whoever waits for the task",
-        steps: THE_FIRST_EATS,
-        then: Then::SideBySide(
-            [Part::Withdraw, Part::Wait],
-            [(1, 0, None), (0, 0, Some(Ok(REFUSED)))],
-        ),
-        counts: &[7, 1],
-        ..SETTLED
-    },
-    Case {
         name: "a thread that only looks sees a meal",
-        then: Then::SideBySide([Part::EatOnce, Part::Watch], [(2, 0, None), (0, 1, None)]),
+        then: Then::SideBySide(&[Part::EatOnce, Part::Watch], [1, 2, 0, 0, 0, 3]),
         counts: &[3, 0],
         ..SETTLED
     },
@@ -171,9 +147,14 @@ fn a_front_answers_two_threads(rt: HostRuntime) {
     }
 }
 
-// A call was answered as its step says, and got the next place, unless the front was stopped.
-fn is_answered(rt: &impl Machine, step: &str, made: Result<Answer, FrontFault>, calls: &mut u64) {
-    let (_, wanted) = step.split_once(" -> ").expect(rt, "an answer");
+// A call was answered so, and got the next place, unless the front was stopped.
+fn is_answered(
+    rt: &impl Machine,
+    step: &str,
+    wanted: &str,
+    made: Result<Answer, FrontFault>,
+    calls: &mut u64,
+) {
     let mut out = Vec::new(rt.alloc());
     if let Ok(Answer { place, reply }) = made {
         same_in(rt, step, reply.write_to(&mut out), Ok(()));
@@ -181,12 +162,8 @@ fn is_answered(rt: &impl Machine, step: &str, made: Result<Answer, FrontFault>, 
         same_in(rt, step, out.as_slice(), wanted.as_bytes());
         *calls = calls.saturating_add(1);
     } else {
-        same_in(
-            rt,
-            step,
-            (made, wanted),
-            (Err(FrontFault::Stopped), "stopped"),
-        );
+        let stopped = (Err(FrontFault::Stopped), "stopped");
+        same_in(rt, step, (made, wanted), stopped);
     }
 }
 
@@ -199,8 +176,7 @@ fn seen<J: Naming>(pass: &mut Pass<J>, task: Task) -> &'static str {
     }
 }
 
-// Takes a step that is no entry.
-fn asks<J: Naming>(
+fn takes<J: Naming>(
     rt: &impl Machine,
     front: &Front<J>,
     pass: &mut Pass<J>,
@@ -211,12 +187,17 @@ fn asks<J: Naming>(
         front.stop(rt);
         return;
     };
+    if let Some(entry) = Entry::read(step) {
+        let made = front.act(rt, pass, entry.call);
+        return is_answered(rt, step, wanted, made, calls);
+    }
     let (asked, task) = asked.rsplit_once(' ').expect(rt, "a task");
     let task = Task::read(task).expect(rt, "a task");
     if asked.ends_with("look") {
         same_in(rt, step, seen(pass, task), wanted);
     } else {
-        is_answered(rt, step, front.begin_in_turn(rt, pass, task), calls);
+        let made = front.begin_in_turn(rt, pass, task);
+        is_answered(rt, step, wanted, made, calls);
     }
 }
 
@@ -229,13 +210,8 @@ fn takes_all<J: Naming>(
     let mut calls = 0u64;
     for step in steps.split("; ") {
         let number = usize::from(step.starts_with("1 "));
-        let pass = passes.get_mut(number);
-        if let (Some(pass), Some(entry)) = (pass, Entry::read(step)) {
-            is_answered(rt, step, front.act(rt, pass, entry.call), &mut calls);
-        } else if let Some(pass) = passes.get_mut(number) {
-            if !step.is_empty() {
-                asks(rt, front, pass, step, &mut calls);
-            }
+        if let (Some(pass), false) = (passes.get_mut(number), step.is_empty()) {
+            takes(rt, front, pass, step, &mut calls);
         }
     }
 }
@@ -288,9 +264,10 @@ pub(crate) fn settles<J: Naming + Send + Sync>(
     takes_all(rt, &front, &mut passes, case.steps);
     match case.then {
         Then::Nothing => {}
-        Then::SideBySide(parts, outcomes) => {
-            let found = side_by_side(rt, &front, &mut passes, parts);
-            same_in(rt, case.name, found, outcomes);
+        Then::SideBySide(parts, wanted) => {
+            let (handed, tally) = side_by_side(rt, &front, passes, parts);
+            same_in(rt, case.name, tally, wanted);
+            passes = handed;
         }
         Then::JoinByEach => joins_by_each(rt, &front, &mut passes),
     }
@@ -299,40 +276,24 @@ pub(crate) fn settles<J: Naming + Send + Sync>(
     closes(rt, front, passes, case, calls);
 }
 
-// The case comes out as it says, at a front of as many passes as it has counts.
-fn check(rt: &impl Machine, case: &Case) {
+/// The case comes out as it says, at a front of as many passes as it has counts.
+pub(crate) fn check(rt: &impl Machine, case: &Case) {
     let passes = case.counts.len();
     assert!(rt; passes <= 16);
-    let from = from(rt, passes as u32);
-    let from = if case.has_looks {
-        from
-    } else {
-        from.without_looks()
-    };
-    same_in(
-        rt,
-        case.name,
-        visit_a_front(rt, from, Visit::Case(case)),
-        None,
-    );
+    let mut from = from(rt, passes as u32);
+    if !case.has_looks {
+        from = from.without_looks();
+    }
+    let fault = visit_a_front(rt, from, Visit::Case(case));
+    same_in(rt, case.name, fault, None);
 }
 
-// Numbers of passes, and the fault of opening with so many.
-const NUMBERS_OF_PASSES: [(u32, Option<OpenFault>); 4] = [
-    (0, Some(OpenFault::Count)),
-    (1, None),
-    (16, None),
-    (17, Some(OpenFault::Count)),
-];
-
+// With one pass and with sixteen the cases above are settled.
 #[test]
 fn a_front_has_one_to_sixteen_passes(rt: HostRuntime) {
-    for (passes, wanted) in &NUMBERS_OF_PASSES {
-        let fault = match Opened::new(LIMITS, *passes) {
-            Ok(from) => visit_a_front(&rt, from, Visit::Nothing),
-            Err(fault) => Some(fault),
-        };
-        same(&rt, fault, *wanted);
+    for passes in [0, 17] {
+        let fault = Opened::new(LIMITS, passes).err();
+        same(&rt, fault, Some(OpenFault::Count));
     }
 }
 

@@ -97,11 +97,8 @@ fn calls<J: Naming>(
     let before = now(rt, notes.begun);
     let made = front.act(rt, pass, call);
     let span = (before, now(rt, notes.begun));
-    let place = made.ok().expect(rt, "there is memory").place;
-    notes
-        .calls
-        .push((place, span))
-        .expect(rt, "there is memory");
+    let place = made.ok().expect(rt, "memory").place;
+    notes.calls.push((place, span)).expect(rt, "memory");
 }
 
 fn looks<J: Naming>(rt: &impl Machine, pass: &mut Pass<J>, notes: &mut Notes, task: Task) {
@@ -109,10 +106,7 @@ fn looks<J: Naming>(rt: &impl Machine, pass: &mut Pass<J>, notes: &mut Notes, ta
     let seen = pass.look(task);
     let span = (before, now(rt, notes.begun));
     let state = seen.ok().expect(rt, "the front is open");
-    notes
-        .looks
-        .push((task, state, span))
-        .expect(rt, "there is memory");
+    notes.looks.push((task, state, span)).expect(rt, "memory");
 }
 
 fn drawn_task(draw: &mut Draw) -> Task {
@@ -176,8 +170,8 @@ fn beside_the_clock(
     for (place, span) in calls {
         same(rt, place, made.len() as u64);
         let entry = journal.entry(place).expect(rt, "there is an entry");
-        made.push((entry.call, entry.reply, span))
-            .expect(rt, "there is memory");
+        let noted = (entry.call, entry.reply, span);
+        made.push(noted).expect(rt, "memory");
     }
     made
 }
@@ -199,12 +193,10 @@ pub(crate) fn keeps_order<J: Naming + Send + Sync>(
     let mut handed = Vec::new(rt.alloc());
     let mut made = Vec::new(rt.alloc());
     let mut told = Vec::new(rt.alloc());
-    for (pass, notes) in parts.expect(rt, "there is memory") {
-        handed.push(pass).expect(rt, "there is memory");
-        made.extend_from_slice(&notes.calls)
-            .expect(rt, "there is memory");
-        told.extend_from_slice(&notes.looks)
-            .expect(rt, "there is memory");
+    for (pass, notes) in parts.expect(rt, "memory") {
+        handed.push(pass).expect(rt, "memory");
+        made.extend_from_slice(&notes.calls).expect(rt, "memory");
+        told.extend_from_slice(&notes.looks).expect(rt, "memory");
     }
     let closed = front.close(rt, handed);
     same(rt, closed.verdict, Verdict::Settled);

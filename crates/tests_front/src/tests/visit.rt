@@ -4,7 +4,6 @@ ghost use Rattle.dine_front.specs.Opening.{CanOpen};
 
 use crate::tests::front::{Case, settles};
 use crate::tests::order::keeps_order;
-use crate::tests::wakes::{Waits, ends_all, gives_and_stops};
 use dine_front::{Front, LEDGER_PARTS, Naming, OpenFault, Opened, Pass};
 use std::marker::Brand;
 use std::process::Abort;
@@ -14,10 +13,7 @@ use tests_kit::{LIMITS, Machine};
 /// What is done at a front with its passes.
 #[derive(Clone, Copy)]
 pub(crate) enum Visit<'a> {
-    Nothing,
     Case(&'a Case),
-    Waits(&'a Waits),
-    TurnAndStop,
     Order,
 }
 
@@ -29,12 +25,7 @@ fn visits<J: Naming + Send + Sync>(
     visit: Visit<'_>,
 ) {
     match visit {
-        Visit::Nothing => {
-            front.close(rt, passes);
-        }
         Visit::Case(case) => settles(rt, front, passes, case),
-        Visit::Waits(waits) => ends_all(rt, front, passes, waits),
-        Visit::TurnAndStop => gives_and_stops(rt, front, passes),
         Visit::Order => keeps_order(rt, front, passes),
     }
 }
@@ -67,17 +58,5 @@ pub(crate) fn visit_a_front<R: Machine>(
 
 /// What a front of so many passes is opened from, over the usual limits.
 pub(crate) fn from(rt: &impl Abort, passes: u32) -> Opened {
-    Opened::new(LIMITS, passes)
-        .ok()
-        .expect(rt, "a front has so many passes")
-}
-
-/// The last of the passes, which is taken from them.
-pub(crate) fn last<J: Naming>(rt: &impl Abort, passes: &mut Vec<Pass<J>>) -> Pass<J> {
-    passes.pop().expect(rt, "a pass is left")
-}
-
-/// Puts a pass with those that are handed in.
-pub(crate) fn puts_back<J: Naming>(rt: &impl Abort, passes: &mut Vec<Pass<J>>, pass: Pass<J>) {
-    passes.push(pass).expect(rt, "there is room");
+    Opened::new(LIMITS, passes).ok().expect(rt, "passes")
 }

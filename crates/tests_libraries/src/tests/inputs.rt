@@ -34,12 +34,7 @@ fn an_input_is_heard_until_enough_has_come(rt: HostRuntime) -> Result<(), AllocE
     Ok(())
 }
 
-// How long the lines at the front of what was heard are, as they are found from this place on.
-fn check_lines(rt: &impl Abort, input: &InputBuffer, from: usize, len: usize) {
-    assert!(rt; from <= input.text().len());
-    same_at(rt, from, input.lines_len(from), len);
-}
-
+// What was dealt with is forgotten.
 fn forget(rt: &impl Abort, input: &mut InputBuffer, count: usize) {
     assert!(rt; count <= input.text().len());
     input.forget(count);
@@ -54,7 +49,8 @@ fn what_was_dealt_with_is_forgotten(rt: HostRuntime) -> Result<(), AllocError> {
     same(&rt, input.text(), b"join a\nsta".as_slice());
     // The last line feed is found from before it on, and at its place, and none behind it.
     for (from, len) in [(0, 7), (6, 7), (7, 0), (10, 0)] {
-        check_lines(&rt, &input, from, len);
+        assert!(&rt; from <= input.text().len());
+        same_at(&rt, from, input.lines_len(from), len);
     }
     forget(&rt, &mut input, 7);
     same(&rt, input.text(), b"sta".as_slice());

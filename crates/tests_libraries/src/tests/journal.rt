@@ -1,23 +1,25 @@
 //! A hall, its journal as text, and the audit of texts.
 
-mod histories;
-mod lines;
+pub mod histories;
 
 use crate::tests::same::{same, same_at};
-use dine_journal::{Answer, Hall, Journal, TextFault};
-use dine_replay::{AuditFault, audit};
+use dine_journal::{Answer, Hall, Journal, PlainTable, TextFault};
+use dine_replay::AuditFault::{self, Header, Line, Memory, Read, Wrong};
+use dine_replay::audit;
 use dine_words::Reply::Done;
-use dine_words::{Entry, Marked, State, Task};
-use std::alloc::{AllocError, Global};
+use dine_words::State::{self, Hungry, Thinking};
+use dine_words::{Entry, Marked, Task};
+use histories::plays;
 use std::process::Abort;
 use tests_kit::{A, B, Host, JOURNAL, LIMITS, TURNS};
 
 const NOBODY: Task = Task { slot: 5, born: 5 };
 
-// A task, its state, whether it is ready, whether it would wait, and how many neighbours it has.
-type Told = (Task, Option<State>, bool, bool, Option<usize>);
+// A task, its state, whether it is ready, whether it would wait, and its neighbours.
+type Told = (Task, Option<State>, bool, bool, Option<&'static [Task]>);
 
-// What a row shows, the entries of a hall's calls, and what the hall tells then: its clock, who is next, and of some tasks.
+// What a row shows, the entries of calls, and what a hall and the plain table tell then: the clock, who is next, and of some
+// tasks.
 type Case = (
     &'static str,
     &'static str,
@@ -26,9 +28,9 @@ type Case = (
     &'static [Told],
 );
 
-const CASES: [Case; 5] = [
+const CASES: [Case; 6] = [
     (
-        "a hall at which nothing was done",
+        "nothing was done",
         "",
         0,
         None,
@@ -40,7 +42,7 @@ const CASES: [Case; 5] = [
         1,
         None,
         &[
-            (A, Some(State::Thinking), false, false, Some(0)),
+            (A, Some(Thinking), false, false, Some(&[])),
             (NOBODY, None, false, false, None),
         ],
     ),
@@ -49,33 +51,45 @@ const CASES: [Case; 5] = [
         "4294967295 join -> joined 0.0; 0 hungry 0.0 -> done",
         1,
         Some(A),
-        &[(A, Some(State::Hungry), true, false, Some(0))],
+        &[(A, Some(Hungry), true, false, Some(&[]))],
     ),
     (
         "a hungry neighbour of an eater would wait",
         "0 join -> joined 0.0; 0 join -> joined 1.1; 0 conflict 0.0 1.1 -> done; \
-        0 hungry 0.0 -> done; 0 begin 0.0 -> done; 0 hungry 1.1 -> done",
+        0 hungry 0.0 -> done (2); 0 begin 0.0 -> done; 0 hungry 1.1 -> done (1)",
         2,
         None,
-        &[(B, Some(State::Hungry), false, true, Some(1))],
+        &[(B, Some(Hungry), false, true, Some(&[A]))],
     ),
     (
         "once the eater has finished it would not wait",
         "0 join -> joined 0.0; 0 join -> joined 1.1; 0 conflict 0.0 1.1 -> done; \
-        0 hungry 0.0 -> done; 0 begin 0.0 -> done; 0 hungry 1.1 -> done; 0 finish 0.0 -> done",
+        0 hungry 0.0 -> done (2); 0 begin 0.0 -> done; 0 hungry 1.1 -> done (1); \
+        0 finish 0.0 -> done (1)",
         3,
         Some(B),
-        &[(B, Some(State::Hungry), true, false, Some(1))],
+        &[(B, Some(Hungry), true, false, Some(&[A]))],
+    ),
+    (
+        "of two who are hungry the one with the earlier meal is next",
+        "0 join -> joined 0.0; 0 join -> joined 1.1; 0 conflict 0.0 1.1 -> done; \
+        0 hungry 1.1 -> done; 0 hungry 0.0 -> done (3)",
+        2,
+        Some(A),
+        &[
+            (A, Some(Hungry), true, false, Some(&[B])),
+            (B, Some(Hungry), false, true, Some(&[A])),
+        ],
     ),
 ];
 
 // An entry, and the number of messages behind it, of which there are none where no number is.
-fn entry_of(rt: &impl Abort, text: &str) -> (Entry, Option<u32>) {
+fn entry_of(rt: &impl Abort, text: &str) -> (Entry, u32) {
     let (entry, messages) = text.split_once(" (").unwrap_or((text, "0)"));
-    let messages = messages.strip_suffix(")").unwrap_or("");
+    let messages = messages.strip_suffix(")").unwrap_or("").parse().ok();
     (
         Entry::read(entry).expect(rt, "an entry"),
-        messages.parse().ok(),
+        messages.expect(rt, "a number"),
     )
 }
 
@@ -103,28 +117,44 @@ fn hall_after(rt: &impl Host, entries: &str) -> Hall {
     hall
 }
 
-fn told(hall: &Hall, alloc: Global, task: Task) -> Result<Told, AllocError> {
-    let neighbours = hall.neighbours(alloc, task)?;
-    let degree = neighbours.map(|neighbours| neighbours.len());
-    let (is_ready, would_wait) = (hall.is_ready(task), hall.would_wait(task));
-    Ok((task, hall.state(task), is_ready, would_wait, degree))
+fn hall_tells(rt: &impl Host, name: &str, hall: &Hall, wanted: &Told) {
+    let (task, state, is_ready, would_wait, beside) = *wanted;
+    let found = (hall.state(task), hall.is_ready(task));
+    same_at(rt, name, found, (state, is_ready));
+    same_at(rt, name, hall.would_wait(task), would_wait);
+    let found = hall.neighbours(rt.alloc(), task);
+    let found = found.ok().expect(rt, "memory");
+    same_at(rt, name, found.as_deref(), beside);
+}
+
+fn table_tells(rt: &impl Host, name: &str, table: &PlainTable, wanted: &Told) {
+    let (task, state, is_ready, _, beside) = *wanted;
+    let found = (table.state(task), table.is_ready(task));
+    same_at(rt, name, found, (state, is_ready));
+    let found = table.neighbours(rt.alloc(), task);
+    let found = found.ok().expect(rt, "memory");
+    same_at(rt, name, found.as_deref(), beside);
 }
 
 fn check(rt: &impl Host, case: &Case) {
     let (name, entries, clock, next, rows) = *case;
     let mut hall = hall_after(rt, entries);
+    let table = plays(rt, LIMITS, entries);
     same_at(rt, name, hall.history().is_empty(), entries.is_empty());
     same_at(rt, name, hall.reserve(), Ok(()));
     same_at(rt, name, hall.has_room(), true);
-    same_at(rt, name, hall.limits(), LIMITS);
+    same_at(rt, name, [hall.limits(), table.limits()], [LIMITS; 2]);
     same_at(rt, name, (hall.clock(), hall.next_ready()), (clock, next));
+    let found = (table.clock(), table.next_ready());
+    same_at(rt, name, found, (clock, next));
     for wanted in rows {
-        same_at(rt, name, told(&hall, rt.alloc(), wanted.0), Ok(*wanted));
+        hall_tells(rt, name, &hall, wanted);
+        table_tells(rt, name, &table, wanted);
     }
 }
 
 #[test]
-fn a_hall_writes_its_history_and_tells_of_its_tasks(rt: HostRuntime) {
+fn a_hall_writes_its_history_and_both_tell_of_their_tasks(rt: HostRuntime) {
     for case in &CASES {
         check(&rt, case);
     }
@@ -169,28 +199,27 @@ fn a_journal_is_written(rt: HostRuntime) {
     same(&rt, text.as_slice(), JOURNAL.as_bytes());
 }
 
+// Faults in the order of their numbers.
+const FAULTS: [AuditFault; 5] = [Header, Line(7), Wrong(7, Done), Read, Memory];
+
 #[test]
 fn faults_have_their_numbers(rt: HostRuntime) {
-    let (header, line) = (AuditFault::Header.number(), AuditFault::Line(7).number());
-    let (wrong, read) = (
-        AuditFault::Wrong(7, Done).number(),
-        AuditFault::Read.number(),
-    );
-    let memory = AuditFault::Memory.number();
-    same(&rt, [header, line, wrong, read, memory], [1, 2, 3, 4, 5]);
+    for (place, fault) in FAULTS.iter().enumerate() {
+        same_at(&rt, place, fault.number() as usize, place + 1);
+    }
     let (write, memory) = (TextFault::Write.number(), TextFault::Memory.number());
     same(&rt, (write, memory), (1, 2));
 }
 
 // A text, and what its audit answers: the number of entries, or the first fault.
 const AUDITED: [(&str, Result<u64, AuditFault>); 4] = [
-    ("", Err(AuditFault::Header)),
+    ("", Err(Header)),
     ("dine 1 64 256\n", Ok(0)),
-    ("dine 1 64 256\n0 join -> joi", Err(AuditFault::Line(1))),
+    ("dine 1 64 256\n0 join -> joi", Err(Line(1))),
     (
         "dine 1 64 256\n0 join -> joined 0.0\n0 hungry 0.0 -> done\n\
         0 begin 0.0 -> refused not-yet\n",
-        Err(AuditFault::Wrong(3, Done)),
+        Err(Wrong(3, Done)),
     ),
 ];
 

@@ -1,11 +1,12 @@
 //! Calls drawn by a seed, made on the plain table and on the arbiter side by side: equal replies, states and questions,
 //! and as many messages as the order of last meals says.
 
+use crate::tests::journal::histories::both_answer;
 use crate::tests::same::same_at;
 use dine_arbiter::Arbiter;
 use dine_journal::PlainTable;
 use dine_words::State::{Eating, Hungry, Thinking};
-use dine_words::{Call, Limits, Refusal, Reply, Task};
+use dine_words::{Call, Limits, Reply, Task};
 use std::alloc::Global;
 use std::process::Abort;
 use tests_kit::{Draw, Host, draw_call};
@@ -26,10 +27,6 @@ const NOBODY: Task = Task { slot: 5, born: 0 };
 // The tasks that joined, each with the stamp of its last meal or of its joining, the latest last.
 type Meals = Vec<(Task, u64)>;
 
-fn stamp(meals: &Meals, task: Task) -> Option<u64> {
-    meals.iter().find(|meal| meal.0 == task).map(|meal| meal.1)
-}
-
 // One of the tasks that joined last.
 fn draw_task(draw: &mut Draw, meals: &Meals) -> Task {
     match meals.iter().rev().nth(draw.below(NAMED)) {
@@ -38,15 +35,15 @@ fn draw_task(draw: &mut Draw, meals: &Meals) -> Task {
     }
 }
 
-// Whether `first` comes before `second`: the other eats, or neither does and its last meal is the earlier one.
+// By what tasks that are compared are ordered: whoever eats comes last, and else whoever ate last.
+fn turn(table: &PlainTable, meals: &Meals, task: Task) -> (bool, Option<u64>) {
+    let stamp = meals.iter().find(|meal| meal.0 == task).map(|meal| meal.1);
+    (table.state(task) == Some(Eating), stamp)
+}
+
+// Whether the first comes before the second.
 fn is_sooner(table: &PlainTable, meals: &Meals, first: Task, second: Task) -> bool {
-    let first_eats = table.state(first) == Some(Eating);
-    let second_eats = table.state(second) == Some(Eating);
-    match (first_eats, second_eats) {
-        (false, true) => true,
-        (false, false) => stamp(meals, first) < stamp(meals, second),
-        _ => false,
-    }
+    turn(table, meals, first) < turn(table, meals, second)
 }
 
 // The messages between the task of a call and one of its neighbours.
@@ -101,19 +98,11 @@ fn messages_of(alloc: Global, table: &PlainTable, meals: &Meals, call: Call) -> 
 }
 
 // Which of the kinds of reply it is.
-const fn kind(reply: Reply) -> usize {
+fn kind(reply: Reply) -> usize {
     match reply {
         Reply::Joined(_) => 0,
-        Reply::Done => 1,
-        Reply::Refused(Refusal::Full) => 2,
-        Reply::Refused(Refusal::Unknown) => 3,
-        Reply::Refused(Refusal::Same) => 4,
-        Reply::Refused(Refusal::Already) => 5,
-        Reply::Refused(Refusal::Apart) => 6,
-        Reply::Refused(Refusal::BothEating) => 7,
-        Reply::Refused(Refusal::NoRoom) => 8,
-        Reply::Refused(Refusal::WrongState(_)) => 9,
-        Reply::Refused(Refusal::NotYet) => 10,
+        Reply::Refused(refusal) => refusal.number() as usize,
+        Reply::Done => 10,
     }
 }
 
@@ -134,33 +123,12 @@ fn expected(alloc: Global, sides: &Sides, call: Call) -> Option<(Reply, u32)> {
     }
 }
 
-// The arbiter answers a call so, with so many messages.
-fn arbiter_answers(
-    rt: &impl Abort,
-    arbiter: &mut Arbiter,
-    call: Call,
-    wanted: (Reply, u32),
-    turn: u32,
-) {
-    assert!(rt; arbiter.clock() < u64::MAX);
-    same_at(rt, turn, arbiter.reply_to(call), wanted.0);
-    let reply = arbiter.apply(call);
-    same_at(rt, turn, (reply, arbiter.messages()), wanted);
-}
-
-// The plain table answers a call so.
-fn table_answers(rt: &impl Abort, table: &mut PlainTable, call: Call, wanted: Reply, turn: u32) {
-    assert!(rt; table.clock() < u64::MAX);
-    same_at(rt, turn, table.apply(call), Ok(wanted));
-}
-
 // Makes a call on both sides, notes a joining or the end of a meal, and says how both reply.
 fn make_call(rt: &impl Host, sides: &mut Sides, call: Call, turn: u32) -> Reply {
     let clock = sides.table.clock();
     same_at(rt, turn, sides.arbiter.clock(), clock);
     let wanted = expected(rt.alloc(), sides, call).expect(rt, "memory");
-    arbiter_answers(rt, &mut sides.arbiter, call, wanted, turn);
-    table_answers(rt, &mut sides.table, call, wanted.0, turn);
+    both_answer(rt, &mut sides.table, &mut sides.arbiter, call, wanted);
     match (call, wanted.0) {
         (_, Reply::Joined(task)) | (Call::Finish(task), Reply::Done) => {
             sides.meals.retain(|meal| meal.0 != task);

@@ -4,9 +4,8 @@ use crate::tests::same::{same, same_in};
 use dine_cli::{Ended, Print, Seed, Silence, run_race};
 use dine_race::Gate;
 use dine_words::Marked;
-use std::array::from_fn;
 use std::hint::spin_loop;
-use std::sync::atomic::{AtomicBool, AtomicU64, AtomicUsize, Ordering};
+use std::sync::atomic::{AtomicBool, AtomicU64, Ordering};
 use std::thread::yield_now;
 use tests_kit::Machine;
 
@@ -121,42 +120,37 @@ fn workers_overlap(rt: HostRuntime) {
 
 // ---- what is heard
 
-// Notes what it is told of one worker, in order: 0 when it comes, and then a number before each step and after it. Of
-// the others it notes how often it is told of their steps.
+// Hears of one worker that it comes, and then of each step, before it and after it: these have the numbers from 0 on. It counts
+// what it hears, and what of it is out of order or of another worker's steps.
 #[derive(Drop)]
-struct Notebook {
+struct Ear {
     worker: u32,
-    of_others: AtomicUsize,
-    count: AtomicUsize,
-    notes: [AtomicU64; 13],
+    heard: AtomicU64,
+    wrong: AtomicU64,
 }
 
-impl Notebook {
-    fn note(&self, worker: u32, number: u64) {
-        if worker != self.worker {
-            self.of_others.fetch_add(1, Ordering::SeqCst);
-            return;
-        }
-        let place = self.count.fetch_add(1, Ordering::SeqCst);
-        if place < 13 {
-            self.notes[place].store(number, Ordering::SeqCst);
+impl Ear {
+    fn hears(&self, worker: u32, number: u64) {
+        let place = self.heard.fetch_add(1, Ordering::SeqCst);
+        if worker != self.worker || number != place {
+            self.wrong.fetch_add(1, Ordering::SeqCst);
         }
     }
 }
 
-impl Gate for Notebook {
+impl Gate for Ear {
     fn comes(&self, worker: u32) {
         if worker == self.worker {
-            self.note(worker, 0);
+            self.hears(worker, 0);
         }
     }
 
     fn before(&self, worker: u32, step: u64) {
-        self.note(worker, step.saturating_mul(2).saturating_add(1));
+        self.hears(worker, step.saturating_mul(2).saturating_add(1));
     }
 
     fn after(&self, worker: u32, step: u64) {
-        self.note(worker, step.saturating_mul(2).saturating_add(2));
+        self.hears(worker, step.saturating_mul(2).saturating_add(2));
     }
 }
 
@@ -195,23 +189,18 @@ const HEARD: [Heard; 4] = [
 
 fn check_heard(rt: &impl Machine, heard: &Heard) {
     let (name, scenario, worker, report) = *heard;
-    let gate = Notebook {
+    let gate = Ear {
         worker,
-        of_others: AtomicUsize::new(0),
-        count: AtomicUsize::new(0),
-        notes: from_fn(|_| AtomicU64::new(99)),
+        heard: AtomicU64::new(0),
+        wrong: AtomicU64::new(0),
     };
     let written = gated(rt, scenario, &gate, Print::Replies);
     same_in(rt, name, written.as_slice(), report);
-    let told = (
-        gate.count.load(Ordering::SeqCst),
-        gate.of_others.load(Ordering::SeqCst),
+    let (heard, wrong) = (
+        gate.heard.load(Ordering::SeqCst),
+        gate.wrong.load(Ordering::SeqCst),
     );
-    same_in(rt, name, told, (13, 0));
-    for number in 0..13 {
-        let note = gate.notes[number].load(Ordering::SeqCst);
-        same_in(rt, name, note, number as u64);
-    }
+    same_in(rt, name, (heard, wrong), (13, 0));
 }
 
 // A gate is told of each worker that comes, and of each step, before it and after it. Steps count over all repeats, and a

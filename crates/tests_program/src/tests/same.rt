@@ -1,5 +1,4 @@
-//! What every test compares by. It is proved once here: an `assert_eq!` written into a test is proved with that test, and a
-//! test with five of them takes a minute.
+//! What every test compares by, proved once: a test into which five `assert_eq!` are written takes a minute.
 
 use std::process::Abort;
 use tests_kit::Compared;

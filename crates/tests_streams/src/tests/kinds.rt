@@ -9,7 +9,7 @@ use crate::tests::same::{same, same_at};
 use dine_cli::{CliFault, Print};
 use dine_command_line::Noting;
 use dine_words::{Failed, Marked, Sink, Source};
-use std::alloc::{AllocError, Global};
+use std::alloc::AllocError;
 use std::cell::Cell;
 use std::io::{Error, ErrorKind, Read, Write};
 use std::process::Abort;
@@ -121,6 +121,11 @@ const STOPS: [u32; 3] = [1, 2, 3];
 
 const CALLS: u32 = 4;
 
+// When and how a stream stops first, and the most bytes that a call moves.
+type Stop = (u32, How, usize);
+
+const NEVER: Stop = (u32::MAX, How::MovesNone, ROOM);
+
 // Reads or writes over so many bytes: what is answered, and whether the stream is marked then.
 fn moved(
     rt: &impl Abort,
@@ -144,7 +149,7 @@ fn check_calls(
     rt: &impl Abort,
     bytes: &mut [u8],
     is_read: bool,
-    (stop, how, most): (u32, How, usize),
+    (stop, how, most): Stop,
     size: usize,
 ) {
     let mut stream = Marked::new(StopsTwice::new(stop, how, most));
@@ -175,13 +180,10 @@ fn check_stops(rt: &impl Abort, bytes: &mut [u8], how: How) {
     }
 }
 
-fn room(alloc: Global) -> Result<Vec<u8>, AllocError> {
-    Ok(vec![in alloc; 0; ROOM]?)
-}
-
 #[test]
 fn a_failure_of_any_kind_is_told_and_not_tried_again(rt: HostRuntime) -> Result<(), AllocError> {
-    let mut bytes = room(rt.alloc())?;
+    let mut bytes = vec![in rt.alloc(); 0; ROOM]?;
+    check_stops(&rt, &mut bytes, How::MovesNone);
     for kind in KINDS {
         check_stops(&rt, &mut bytes, How::Fails(kind));
     }
@@ -192,28 +194,14 @@ fn a_failure_of_any_kind_is_told_and_not_tried_again(rt: HostRuntime) -> Result<
     Ok(())
 }
 
-#[test]
-fn what_moves_no_byte_is_not_tried_again(rt: HostRuntime) -> Result<(), AllocError> {
-    let mut bytes = room(rt.alloc())?;
-    check_stops(&rt, &mut bytes, How::MovesNone);
-    Ok(())
-}
-
-// Hands on bytes of each number, up to some, over a stream that never stops.
-fn check_sizes(rt: &impl Abort, bytes: &mut [u8], is_read: bool) {
-    let mut stream = Marked::new(StopsTwice::new(u32::MAX, How::MovesNone, ROOM));
-    for size in 0..70_000 {
-        let found = moved(rt, &mut stream, is_read, bytes, size);
-        same_at(rt, "the call", size, found, (Ok(size), false));
-    }
-    same_at(rt, "the calls", 0, stream.into_inner().calls, 70_000);
-}
-
+// Bytes of each number, up to some, over a stream that never stops.
 #[test]
 fn no_failure_is_made_up(rt: HostRuntime) -> Result<(), AllocError> {
-    let mut bytes = room(rt.alloc())?;
-    check_sizes(&rt, &mut bytes, true);
-    check_sizes(&rt, &mut bytes, false);
+    let mut bytes = vec![in rt.alloc(); 0; ROOM]?;
+    for size in 0..70_000 {
+        check_calls(&rt, &mut bytes, true, NEVER, size);
+        check_calls(&rt, &mut bytes, false, NEVER, size);
+    }
     Ok(())
 }
 

@@ -2,6 +2,7 @@
 //! that print more.
 
 use crate::tests::engine::Engine;
+use crate::tests::program::text_of;
 use crate::tests::same::same_at;
 use dine_cli::{CliFault, Ended, Print};
 use dine_words::Marked;
@@ -21,18 +22,9 @@ const ROWS: [Row; 2] = [
 
 const REPLIES: Engine = Engine::Script(Print::Replies);
 
-// A first line, and then another over and over.
-fn text_of(alloc: Global, first: &[u8], line: &[u8]) -> Result<Vec<u8>, AllocError> {
-    let mut text = first.to_vec(alloc)?;
-    for _ in 0..LINES {
-        text.extend_from_slice(line)?;
-    }
-    Ok(text)
-}
-
 // A task joins, and then it is asked for. The last line lacks its line feed.
 fn script_of(alloc: Global, line: &[u8]) -> Result<Vec<u8>, AllocError> {
-    let mut script = text_of(alloc, b"join a\n", line)?;
+    let mut script = text_of(alloc, b"join a\n", line, LINES)?;
     script.pop();
     Ok(script)
 }
@@ -49,7 +41,7 @@ fn check_pieces(rt: &impl Machine, script: &[u8], replies: &[u8], most: usize) {
 fn a_long_script_is_answered_however_it_comes(rt: HostRuntime) -> Result<(), AllocError> {
     for (line, reply, _) in &ROWS {
         let script = script_of(rt.alloc(), line)?;
-        let replies = text_of(rt.alloc(), b"joined 0.0\n", reply)?;
+        let replies = text_of(rt.alloc(), b"joined 0.0\n", reply, LINES)?;
         for most in [999, 65_536, 1_000_000] {
             check_pieces(&rt, &script, &replies, most);
         }

@@ -1,8 +1,23 @@
-//! The program over streams.
+//! The program over streams, and long texts for it.
 
 use dine_cli::{CommandLine, Listener, NoFiles, NoGate, Seed, run_words};
 use dine_words::{Sink, Source};
+use std::alloc::{AllocError, Global};
 use tests_kit::Machine;
+
+/// A front, and then a part so often.
+pub fn text_of(
+    alloc: Global,
+    front: &[u8],
+    part: &[u8],
+    times: usize,
+) -> Result<Vec<u8>, AllocError> {
+    let mut text = front.to_vec(alloc)?;
+    for _ in 0..times {
+        text.extend_from_slice(part)?;
+    }
+    Ok(text)
+}
 
 /// Runs the program over these streams, tells whoever listens what is wrong, and answers the status.
 pub fn run_over<C: CommandLine, R: Source, W: Sink, L: Listener>(

@@ -1,9 +1,8 @@
 //! Reads and writes that fail in mid-stream, and streams that move little at a time.
 
 use crate::tests::engine::Engine;
-use crate::tests::program::run_over;
 use crate::tests::same::same;
-use dine_cli::{CliFault, Ended, Print, Silence};
+use dine_cli::{CliFault, Ended, Print};
 use dine_journal::{Journal, TextFault};
 use dine_replay::{AuditFault, audit};
 use dine_words::Marked;
@@ -19,20 +18,16 @@ const TO_REPLIES: Engine = Engine::Script(Print::Replies);
 
 const TO_JOURNAL: Engine = Engine::Script(Print::Journal);
 
-// An engine, the words that the program is given for it, an input of it, and the output.
-type Row = (Engine, &'static [&'static str], &'static str, &'static str);
+// An engine, an input of it, and the output.
+type Row = (Engine, &'static str, &'static str);
 
 const ROWS: [Row; 5] = [
-    (TO_REPLIES, &["hygienic", "run"], SCRIPT, REPLIES),
-    (TO_JOURNAL, &WITH_JOURNAL, SCRIPT, JOURNAL),
-    (Engine::Audit, &["hygienic", "audit"], JOURNAL, VERDICT),
-    (Engine::LongAudit, &LONG_AUDIT, JOURNAL, VERDICT),
-    (Engine::Race, &["hygienic", "race"], SCENARIO, REPORT),
+    (TO_REPLIES, SCRIPT, REPLIES),
+    (TO_JOURNAL, SCRIPT, JOURNAL),
+    (Engine::Audit, JOURNAL, VERDICT),
+    (Engine::LongAudit, JOURNAL, VERDICT),
+    (Engine::Race, SCENARIO, REPORT),
 ];
-
-const WITH_JOURNAL: [&str; 3] = ["hygienic", "run", "--journal"];
-
-const LONG_AUDIT: [&str; 3] = ["hygienic", "audit", "--long"];
 
 // More reads or writes than any of the runs makes.
 const MANY: u32 = 1000;
@@ -50,7 +45,7 @@ fn check_well(
 
 // Runs an engine whose reads give so many bytes at most, and fail after so many. Says whether it met no failure.
 fn reads_all(rt: &impl Machine, row: &Row, most: usize, reads: u32) -> bool {
-    let (engine, _, input, output) = *row;
+    let (engine, input, output) = *row;
     let mut reader = FailingReader::new(input.as_bytes(), most, reads);
     let mut writer = FailingWriter::new(1024, MANY);
     let ended = engine.run(rt, &mut reader, &mut writer);
@@ -63,10 +58,11 @@ fn reads_all(rt: &impl Machine, row: &Row, most: usize, reads: u32) -> bool {
     false
 }
 
-// Runs an engine whose writes take so many bytes at most, and fail after so many. Says whether it met no failure.
+// Runs an engine whose reads give one byte each, and whose writes take so many bytes at most, and fail after so many. Says
+// whether it met no failure.
 fn writes_all(rt: &impl Machine, row: &Row, most: usize, writes: u32) -> bool {
-    let (engine, _, input, output) = *row;
-    let mut reader = Marked::new(input.as_bytes());
+    let (engine, input, output) = *row;
+    let mut reader = FailingReader::new(input.as_bytes(), 1, MANY);
     let mut writer = FailingWriter::new(most, writes);
     let ended = engine.run(rt, &mut reader, &mut writer);
     if writer.failures == 0 {
@@ -99,8 +95,10 @@ fn check_failures(rt: &impl Machine, row: &Row, is_read: bool, most: usize) -> u
 #[test]
 fn each_read_that_fails_writes_nothing(rt: HostRuntime) {
     for row in &ROWS {
-        let reads = check_failures(&rt, row, true, 7);
-        assert!(&rt; reads > 5 && reads < 100);
+        for most in [1, 7] {
+            let reads = check_failures(&rt, row, true, most);
+            assert!(&rt; reads > 5 && reads < MANY);
+        }
     }
 }
 
@@ -152,7 +150,7 @@ fn a_read_that_fails_behind_a_wrong_line_is_told(rt: HostRuntime) {
 }
 
 fn check_nothing_taken(rt: &impl Machine, row: &Row) {
-    let (engine, _, input, _) = *row;
+    let (engine, input, _) = *row;
     let mut writer = FailingWriter::new(0, MANY);
     let ended = engine.run(rt, &mut Marked::new(input.as_bytes()), &mut writer);
     same(rt, (ended, writer.writes), (Err(CliFault::Write), 1));
@@ -184,48 +182,10 @@ fn a_write_that_takes_nothing_has_failed(rt: HostRuntime) {
     }
 }
 
-// The fourth read fails: the program ends with 3, after a last line.
-fn check_failed_read(rt: &impl Machine, words: &[&str], input: &str) {
-    let mut reader = FailingReader::new(input.as_bytes(), 7, 3);
-    let mut writer = FailingWriter::new(1024, MANY);
-    let (status, _) = run_over(rt, words, &mut reader, &mut writer, Silence);
-    same(rt, status, 3);
-    same(rt, writer.written(), b"fault read\n".as_slice());
-}
-
-// A write fails after so many: the program ends with 3, and writes nothing more.
-fn check_failed_write(rt: &impl Machine, words: &[&str], input: &str, writes: u32) {
-    let mut reader = Marked::new(input.as_bytes());
-    let mut writer = FailingWriter::new(2, writes);
-    let (status, _) = run_over(rt, words, &mut reader, &mut writer, Silence);
-    same(rt, status, 3);
-    same(rt, (writer.writes, writer.failures), (writes, 1));
-}
-
-#[test]
-fn the_program_tells_of_failed_streams(rt: HostRuntime) {
-    for (_, words, input, _) in &ROWS {
-        check_failed_read(&rt, words, input);
-        for writes in 0..3 {
-            check_failed_write(&rt, words, input, writes);
-        }
-    }
-}
-
-#[test]
-fn streams_may_move_one_byte_at_a_time(rt: HostRuntime) {
-    for (engine, _, input, output) in &ROWS {
-        let mut reader = FailingReader::new(input.as_bytes(), 1, MANY);
-        let mut writer = FailingWriter::new(1, MANY);
-        let ended = engine.run(&rt, &mut reader, &mut writer);
-        check_well(&rt, ended, &writer, output);
-    }
-}
-
 // But for the long audit, which has its answer once the first line is too long.
 #[test]
 fn an_endless_input_is_a_failed_read(rt: HostRuntime) {
-    for (engine, _, _, _) in &ROWS {
+    for (engine, _, _) in &ROWS {
         let mut writer = FailingWriter::new(1024, MANY);
         let ended = engine.run(&rt, &mut EndlessReader, &mut writer);
         if let Engine::LongAudit = engine {

@@ -1,4 +1,4 @@
-//! An arbiter: calls that are drawn, and questions. And an edge.
+//! An arbiter: calls that are drawn, questions, and edges.
 
 use super::{begins, ends};
 use crate::tests::same::same;
@@ -38,22 +38,29 @@ fn make_call(rt: &impl Abort, arbiter: &mut Arbiter, call: Call, is_known: bool)
     !matches!(reply, Reply::Refused(_))
 }
 
-// Asks what can be asked of two tasks. Who is ready is hungry.
-fn ask_about(rt: &impl Abort, arbiter: &Arbiter, task: Task, other: Task) {
+// Asks what can be asked of an arbiter and of two tasks. Who is ready is hungry.
+fn ask(rt: &impl Abort, arbiter: &Arbiter, task: Task, other: Task) {
     let _ = arbiter.has_hungry_neighbour(task);
     let _ = arbiter.stands_before(task, other);
     let is_hungry = arbiter.state(task) == Some(State::Hungry);
     assert!(rt; is_hungry || !arbiter.is_ready(task));
-}
-
-// Asks what can be asked of an arbiter.
-fn ask_all(rt: &impl Abort, arbiter: &Arbiter) {
-    let book = arbiter.book();
-    assert!(rt; book.len() <= arbiter.limits().conflicts);
+    assert!(rt; arbiter.book().len() <= arbiter.limits().conflicts);
     let _ = (arbiter.messages(), arbiter.next_ready());
 }
 
-// Makes drawn calls, and asks after each. Says how many were accepted.
+// Settles a drawn fork between the states of two tasks that are present.
+fn settle(arbiter: &Arbiter, draw: &mut Draw, task: Task, other: Task) {
+    let fork = Fork {
+        at_first: draw.below(2) == 0,
+        dirty: draw.below(2) == 0,
+        token_first: draw.below(2) == 0,
+    };
+    if let (Some(first), Some(second)) = (arbiter.state(task), arbiter.state(other)) {
+        let _ = settle_edge(fork, first, second);
+    }
+}
+
+// Makes drawn calls, asks after each, and settles an edge. Says how many were accepted.
 fn make_calls(rt: &impl Abort, arbiter: &mut Arbiter, calls: u32) -> u32 {
     let mut draw = Draw { state: 1984 };
     let mut accepted: u32 = 0;
@@ -66,8 +73,8 @@ fn make_calls(rt: &impl Abort, arbiter: &mut Arbiter, calls: u32) -> u32 {
         }
         let task = draw_task(arbiter, &mut draw);
         let other = draw_task(arbiter, &mut draw);
-        ask_about(rt, arbiter, task, other);
-        ask_all(rt, arbiter);
+        ask(rt, arbiter, task, other);
+        settle(arbiter, &mut draw, task, other);
     }
     accepted
 }
@@ -87,33 +94,4 @@ fn an_arbiter_that_is_made_takes_no_memory(rt: HostRuntime) {
     for table in &TABLES {
         check_table(&rt, table);
     }
-}
-
-const STATES: [State; 3] = [State::Thinking, State::Hungry, State::Eating];
-
-// Settles each fork between ends in each state, and says how many messages that takes in all.
-fn settle_all() -> u32 {
-    let mut messages: u32 = 0;
-    for bits in 0..8u8 {
-        let fork = Fork {
-            at_first: bits & 1 == 0,
-            dirty: bits & 2 == 0,
-            token_first: bits & 4 == 0,
-        };
-        for first in STATES {
-            for second in STATES {
-                let (_, sent) = settle_edge(fork, first, second);
-                messages = messages.saturating_add(u32::from(sent));
-            }
-        }
-    }
-    messages
-}
-
-#[test]
-fn an_edge_takes_no_memory(rt: HostRuntime) {
-    begins(rt.alloc());
-    let messages = settle_all();
-    ends(rt.alloc());
-    assert!(&rt; messages > 0);
 }

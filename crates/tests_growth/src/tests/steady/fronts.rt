@@ -98,9 +98,7 @@ fn use_front<J: Naming, R: Wait + Abort>(rt: &R, alloc: Global, ledger: Blank, f
 #[test]
 fn a_front_that_is_open_takes_no_memory_for_looks(rt: HostRuntime) {
     begins(rt.alloc());
-    let from = Opened::new(LIMITS, 2)
-        .ok()
-        .expect(&rt, "a front may have two passes");
+    let from = Opened::new(LIMITS, 2).ok().expect(&rt, "two passes");
     let ledger = Blank::new(LEDGER_PARTS);
     ends(rt.alloc());
     use_front::<Brand, _>(&rt, rt.alloc(), ledger, from);

@@ -4,7 +4,7 @@ use super::{begins, ends};
 use crate::tests::same::same;
 use dine_journal::{Answer, Hall, History, PlainTable};
 use dine_words::{Call, Entry, Reply, State};
-use std::alloc::{AllocError, Global};
+use std::alloc::AllocError;
 use std::process::Abort;
 use tests_kit::{A, B, Host, LIMITS, RING};
 
@@ -12,40 +12,31 @@ use tests_kit::{A, B, Host, LIMITS, RING};
 const MORE: &str = "0 begin 1.1 -> refused not-yet; 0 finish 0.0 -> done; 0 begin 1.1 -> done; \
     0 withdraw 2.2 -> done; 0 separate 2.2 3.3 -> done; 0 leave 2.2 -> done";
 
-// Makes the calls of entries in a hall, for each of which there is room then: as any, or as ones whose reply is known.
+// Makes a call in a hall with room: as any, or as one whose reply is known.
+fn act(rt: &impl Host, hall: &mut Hall, entry: Entry, is_known: bool) {
+    let has_room = hall.has_room();
+    assert!(rt; has_room);
+    let Entry { pass, call, reply } = entry;
+    let place = hall.history().len() as u64;
+    begins(rt.alloc());
+    let found = hall.reply_to(call);
+    let made = if is_known {
+        let reply = found;
+        Ok(hall.act_answered(Entry { pass, call, reply }))
+    } else {
+        hall.act(pass, call)
+    };
+    ends(rt.alloc());
+    same(rt, (found, made), (reply, Ok(Answer { place, reply })));
+}
+
+// Makes the calls of entries, for each of which there is room then.
 fn act_in_room(rt: &impl Host, hall: &mut Hall, entries: &str, is_known: bool) {
     for text in entries.split("; ") {
         let entry = Entry::read(text).expect(rt, "an entry");
-        let Entry { pass, call, reply } = entry;
-        let place = hall.history().len() as u64;
         same(rt, hall.reserve(), Ok(()));
-        let made = if is_known {
-            act_known(rt, hall, pass, call)
-        } else {
-            act(rt, hall, pass, call)
-        };
-        same(rt, made, Ok(Answer { place, reply }));
+        act(rt, hall, entry, is_known);
     }
-}
-
-fn act(rt: &impl Host, hall: &mut Hall, pass: u32, call: Call) -> Result<Answer, AllocError> {
-    begins(rt.alloc());
-    let reply = hall.reply_to(call);
-    same(rt, hall.has_room(), true);
-    let made = hall.act(pass, call);
-    ends(rt.alloc());
-    same(rt, made.map(|answer| answer.reply), Ok(reply));
-    made
-}
-
-fn act_known(rt: &impl Host, hall: &mut Hall, pass: u32, call: Call) -> Result<Answer, AllocError> {
-    let has_room = hall.has_room();
-    assert!(rt; has_room);
-    begins(rt.alloc());
-    let reply = hall.reply_to(call);
-    let made = hall.act_answered(Entry { pass, call, reply });
-    ends(rt.alloc());
-    Ok(made)
 }
 
 // Asks all that can be asked of a hall in which the first of the five eats.

@@ -25,34 +25,44 @@ const LONG: Task = Task {
     born: u64::MAX,
 };
 
-// Calls and replies with short parts and with the longest.
+// Each call and each reply, with short parts and with the longest.
 const CALLS: &str = "join; leave 4294967295.18446744073709551615; \
     conflict 4294967295.18446744073709551615 0.0; separate 0.0 4294967295.18446744073709551615; \
-    hungry 0.0; begin 4294967295.18446744073709551615; finish 0.0; \
+    hungry 12.345; begin 4294967295.18446744073709551615; finish 0.0; \
     withdraw 4294967295.18446744073709551615";
 
-const REPLIES: &str = "joined 4294967295.18446744073709551615; done; refused not-yet; \
-    refused full; refused both-eating";
+const REPLIES: &str = "joined 4294967295.18446744073709551615; joined 0.0; done; refused full; \
+    refused unknown; refused same; refused already; refused apart; refused both-eating; \
+    refused no-room; refused thinking; refused hungry; refused eating; refused not-yet";
 
-// Writes the lines of an entry, of a reply and of a task that has joined, for each of which there is room.
-fn write_all(rt: &impl Host, entry: &Entry, out: &mut Vec<u8>) {
-    begins(rt.alloc());
-    let lines = (
-        entry.write_line_to(out),
-        entry.write_to(out),
-        entry.reply.write_line_to(out),
-        LONG.write_joined_line(out),
-        A.write_joined_line(out),
-    );
-    ends(rt.alloc());
-    same(rt, lines, (Ok(()), Ok(()), Ok(()), Ok(()), Ok(())));
+// Writes an entry, its line, its reply, the line of that, and the lines of tasks that have joined.
+fn write_all(entry: &Entry, out: &mut Vec<u8>) -> Result<(), AllocError> {
+    out.push(b'x')?;
+    entry.write_to(out)?;
+    out.push(b'|')?;
+    entry.write_line_to(out)?;
+    entry.reply.write_to(out)?;
+    out.push(b'|')?;
+    entry.reply.write_line_to(out)?;
+    LONG.write_joined_line(out)?;
+    A.write_joined_line(out)
 }
 
-fn entry(rt: &impl Host, pass: u32, call: &str, reply: &str) -> Entry {
-    let text = format!(in rt.alloc(); "{pass} {call} -> {reply}")
-        .ok()
-        .expect(rt, "memory");
-    Entry::read(&text).expect(rt, "an entry")
+// Whatever is written is the text again, behind what was there.
+fn check_written(rt: &impl Host, out: &mut Vec<u8>, text: &str) {
+    let entry = Entry::read(text).expect(rt, "an entry");
+    let (_, reply) = text.split_once(" -> ").expect(rt, "a reply");
+    out.clear();
+    begins(rt.alloc());
+    let written = write_all(&entry, out);
+    ends(rt.alloc());
+    same(rt, written, Ok(()));
+    let wanted = format!(in rt.alloc();
+        "x{text}|{text}\n{reply}|{reply}\n\
+joined 4294967295.18446744073709551615\njoined 0.0\n"
+    );
+    let wanted = wanted.ok().expect(rt, "memory");
+    same(rt, out.as_slice(), wanted.as_bytes());
 }
 
 #[test]
@@ -60,10 +70,9 @@ fn a_line_for_which_there_is_room_takes_no_memory(rt: HostRuntime) -> Result<(),
     let mut out = Vec::with_capacity(rt.alloc(), 6 * MAX_ENTRY_LINE)?;
     for call in CALLS.split("; ") {
         for reply in REPLIES.split("; ") {
-            for pass in [0, u32::MAX] {
-                let entry = entry(&rt, pass, call, reply);
-                out.clear();
-                write_all(&rt, &entry, &mut out);
+            for pass in [0, 10, 999, 1000, u32::MAX] {
+                let text = format!(in rt.alloc(); "{pass} {call} -> {reply}")?;
+                check_written(&rt, &mut out, &text);
             }
         }
     }

@@ -1,12 +1,11 @@
 //! Worked histories: a plain table and an arbiter answer alike, a journal keeps the entries, and who overtakes whom.
 
 use super::{entry_of, hall_after, is_audited, text_of};
-use crate::tests::same::{same, same_at};
+use crate::tests::same::same_at;
 use dine_arbiter::Arbiter;
 use dine_journal::{Journal, PlainTable, most_overtakes, overtakes};
 use dine_replay::{Checked, check};
-use dine_words::{Entry, Limits, Marked, State, Task};
-use std::alloc::Global;
+use dine_words::{Call, Entry, Limits, Marked, Reply, Task};
 use std::process::Abort;
 use tests_kit::{A, B, C, Host, LIMITS};
 
@@ -145,39 +144,39 @@ const OF_ALL: [Pair; 6] = [
     (A, NOBODY, 0),
 ];
 
-const BOTH_ARE_HUNGRY: &str =
-    "0 join -> joined 0.0; 0 join -> joined 1.1; 0 conflict 0.0 1.1 -> done; \
-    0 hungry 1.1 -> done; 0 hungry 0.0 -> done (3)";
-
-// Makes the call of an entry at a table and at an arbiter: both answer as the entry says, with its messages.
-fn makes(rt: &impl Abort, table: &mut PlainTable, arbiter: &mut Arbiter, text: &str) {
-    let (Entry { call, reply, .. }, messages) = entry_of(rt, text);
+/// Makes a call at a table and at an arbiter: both answer so, with so many messages.
+pub fn both_answer(
+    rt: &impl Abort,
+    table: &mut PlainTable,
+    arbiter: &mut Arbiter,
+    call: Call,
+    (reply, messages): (Reply, u32),
+) {
     assert!(rt; table.clock() < u64::MAX && arbiter.clock() < u64::MAX);
-    same_at(rt, text, table.apply(call), Ok(reply));
-    same_at(rt, text, arbiter.reply_to(call), reply);
-    same_at(rt, text, arbiter.apply(call), reply);
-    same_at(rt, text, Some(arbiter.messages()), messages);
+    same_at(rt, table.clock(), table.apply(call), Ok(reply));
+    same_at(rt, table.clock(), arbiter.reply_to(call), reply);
+    same_at(rt, table.clock(), arbiter.apply(call), reply);
+    same_at(rt, table.clock(), arbiter.messages(), messages);
 }
 
 // A table that has made the calls of the entries, and an arbiter beside it.
-fn plays(rt: &impl Host, limits: Limits, entries: &str) -> PlainTable {
+pub fn plays(rt: &impl Host, limits: Limits, entries: &str) -> PlainTable {
     let mut table = PlainTable::new(rt.alloc(), limits);
     let mut arbiter = Arbiter::new(rt.alloc(), limits).ok().expect(rt, "memory");
     for text in entries.split("; ") {
         if !text.is_empty() {
-            makes(rt, &mut table, &mut arbiter, text);
+            let (Entry { call, reply, .. }, messages) = entry_of(rt, text);
+            both_answer(rt, &mut table, &mut arbiter, call, (reply, messages));
         }
     }
     table
 }
 
-// Entries at small limits.
-const AT_SMALL_LIMITS: [(Limits, &str); 3] = [
+// The most tasks and conflicts, and entries at these limits.
+const AT_SMALL_LIMITS: [(u32, u32, &str); 3] = [
     (
-        Limits {
-            tasks: 2,
-            conflicts: 1,
-        },
+        2,
+        1,
         "0 join -> joined 0.0; 0 join -> joined 1.1; 0 join -> refused full; \
         0 separate 0.0 1.1 -> refused apart; 0 conflict 0.0 1.1 -> done; \
         0 conflict 1.1 0.0 -> refused already; 0 conflict 1.1 1.1 -> refused same; \
@@ -186,18 +185,14 @@ const AT_SMALL_LIMITS: [(Limits, &str); 3] = [
         0 separate 1.1 0.2 -> done",
     ),
     (
-        Limits {
-            tasks: 3,
-            conflicts: 1,
-        },
+        3,
+        1,
         "0 join -> joined 0.0; 0 join -> joined 1.1; 0 join -> joined 2.2; \
         0 conflict 0.0 1.1 -> done; 0 conflict 0.0 2.2 -> refused no-room",
     ),
     (
-        Limits {
-            tasks: 2,
-            conflicts: 1,
-        },
+        2,
+        1,
         "0 join -> joined 0.0; 0 join -> joined 1.1; 0 join -> refused full; \
         0 conflict 0.0 1.1 -> done; 0 hungry 0.0 -> done (2); 0 leave 0.0 -> refused hungry; \
         0 leave 1.1 -> done; 0 join -> joined 1.2; 0 leave 1.1 -> refused unknown; \
@@ -212,36 +207,9 @@ fn table_and_arbiter_answer_as_wanted(rt: HostRuntime) {
     for (_, entries, ..) in &ROWS {
         plays(&rt, LIMITS, entries);
     }
-    for (limits, entries) in &AT_SMALL_LIMITS {
-        plays(&rt, *limits, entries);
-    }
-}
-
-// A task, its state, whether it is ready, and its neighbours.
-type Told = (Task, Option<State>, bool, Option<&'static [Task]>);
-
-const TOLD: [Told; 3] = [
-    (A, Some(State::Hungry), true, Some(&[B])),
-    (B, Some(State::Hungry), false, Some(&[A])),
-    (C, None, false, None),
-];
-
-#[test]
-fn the_table_tells_what_it_holds(rt: HostRuntime) {
-    let table = plays(&rt, LIMITS, BOTH_ARE_HUNGRY);
-    same(&rt, (table.limits(), table.clock()), (LIMITS, 2));
-    same(&rt, table.next_ready(), Some(A));
-    for (task, state, is_ready, beside) in &TOLD {
-        same(
-            &rt,
-            (table.state(*task), table.is_ready(*task)),
-            (*state, *is_ready),
-        );
-        let found = table
-            .neighbours(rt.alloc(), *task)
-            .ok()
-            .expect(&rt, "memory");
-        same(&rt, found.as_deref(), *beside);
+    for (tasks, conflicts, entries) in &AT_SMALL_LIMITS {
+        let limits = Limits::new(*tasks, *conflicts);
+        plays(&rt, limits.expect(&rt, "limits"), entries);
     }
 }
 

@@ -19,14 +19,6 @@ const MOST_READS: u32 = 3;
 // Nothing is written but an answer that comes before the failed read.
 const MANY: u32 = 100;
 
-const ENGINES: [(Engine, &str); 5] = [
-    (Engine::Script(Print::Replies), SCRIPT),
-    (Engine::Script(Print::Journal), SCRIPT),
-    (Engine::Audit, JOURNAL),
-    (Engine::LongAudit, JOURNAL),
-    (Engine::Race, SCENARIO),
-];
-
 // What an engine answers over a reader that gives so many bytes at once, and fails after so many reads. It is asked once.
 fn answer_of(
     rt: &impl Machine,
@@ -37,16 +29,6 @@ fn answer_of(
 ) -> Result<Ended, CliFault> {
     let mut reader = FailingReader::new(input, part, reads);
     engine.run(rt, &mut reader, &mut FailingWriter::new(1024, MANY))
-}
-
-#[test]
-fn a_failed_read_is_told_first(rt: HostRuntime) {
-    for (engine, input) in &ENGINES {
-        for reads in 0..=MOST_READS {
-            let ended = answer_of(&rt, *engine, input.as_bytes(), PART, reads);
-            same(&rt, ended, Err(CliFault::Read));
-        }
-    }
 }
 
 // Words that are read again if memory runs out.
@@ -63,17 +45,26 @@ impl CommandLine for ReadAgain {
     }
 }
 
-const DRAWINGS: [&[&str]; 3] = [
-    &["hygienic", "chart"],
-    &["hygienic", "chart", "--trace"],
-    &["hygienic", "chart", "--dot"],
+// A command line, and an input.
+type Row = (&'static [&'static str], &'static str);
+
+const ROWS: [Row; 8] = [
+    (&["hygienic", "run"], SCRIPT),
+    (&["hygienic", "run", "--journal"], SCRIPT),
+    (&["hygienic", "race"], SCENARIO),
+    (&["hygienic", "audit"], JOURNAL),
+    (&["hygienic", "audit", "--long"], JOURNAL),
+    (&["hygienic", "chart"], JOURNAL),
+    (&["hygienic", "chart", "--trace"], JOURNAL),
+    (&["hygienic", "chart", "--dot"], JOURNAL),
 ];
 
+// The program ends with 3 then, after a last line.
 #[test]
-fn a_failed_read_of_what_is_drawn_is_told_first(rt: HostRuntime) {
-    for words in &DRAWINGS {
+fn a_failed_read_is_told_first(rt: HostRuntime) {
+    for (words, input) in &ROWS {
         for reads in 0..=MOST_READS {
-            let mut reader = FailingReader::new(JOURNAL.as_bytes(), PART, reads);
+            let mut reader = FailingReader::new(input.as_bytes(), PART, reads);
             let mut writer = FailingWriter::new(1024, MANY);
             let words = ReadAgain { words: *words };
             let (status, _) = run_over(&rt, words, &mut reader, &mut writer, Silence);
