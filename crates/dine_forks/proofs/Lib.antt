@@ -23,6 +23,7 @@ pub mod Giving
 pub mod Sending
 pub mod Asking
 pub mod Lacking
+pub mod Labels
 pub mod Blocks
 pub mod Crosses
 pub mod Memory

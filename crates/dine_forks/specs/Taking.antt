@@ -1,5 +1,5 @@
 -- A record that is taken into use: the last vacant one, or the first of those that were never given.
-use Rattle.std.specs.Prelude.{◌≡◌, ℕ, nat_lt, Bool, ◌&&◌, if◌then◌else◌, is_none, List, [], ◌∷◌, ◌++◌, length, Option, Some, None, IfSome}
+use Rattle.std.specs.Prelude.{◌≡◌, ℕ, nat_lt, Bool, ◌&&◌, if◌then◌else◌, is_none, List, [], ◌∷◌, ◌++◌, length, Option, None, IfSome}
 use Rattle.dine_forks.specs.Book.{ForkId}
 use Rattle.dine_forks.specs.Lists.{ListEnds, Node, cut_list, cut_nodes_in, empty_list, hung_list, node_at}
 use Rattle.dine_forks.specs.Blocks.{blank_node}

@@ -84,6 +84,23 @@ impl ListEnds {
             degree: self.degree - 1,
         }
     }
+
+    /// The ends once the last record is cut out, which followed this one: what follows it isn't asked.
+    #[inline(always)]
+    pub fn without_last(self, previous: Link) -> ListEnds
+        requires { 1 ≤ self.degree }
+        ensures { result ≡ cut_list record { previous = previous; next = None } self }
+    {
+        ListEnds {
+            first: if previous.is_none() {
+                Link::NONE
+            } else {
+                self.first
+            },
+            last: previous,
+            degree: self.degree - 1,
+        }
+    }
 }
 
 /// Fork records between slots, in order of declaration and walked by slot, as they are written.

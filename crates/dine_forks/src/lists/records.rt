@@ -68,7 +68,7 @@ impl Records {
         match vacant.last.get() {
             Some(id) => {
                 let links = self.cut(None, id);
-                *vacant = vacant.without_one(links);
+                *vacant = vacant.without_last(links.previous);
                 Some(id)
             }
             None => self.give(),

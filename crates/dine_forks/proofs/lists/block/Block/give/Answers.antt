@@ -1,4 +1,4 @@
-use Rattle.dine_forks.proofs.Words.{get_or, get_or-set_other, length-set, AreCells, AreLeft, Cell, InBlock, List, None, Option, Ptr, Some, ap, arith, length, set, subst, sym, ◌≡◌, ◌+◌, ◌∙◌, blank_node, block_nodes, cell_index, nodes_from, vacant_cell, ◌++◌, ◌∷◌, []}
+use Rattle.dine_forks.proofs.Words.{get_or, get_or-set_other, length-set, AreCells, AreLeft, Cell, InBlock, List, None, Option, Ptr, Some, ap, arith, length, set, subst, sym, ◌≡◌, ◌+◌, ◌∙◌, blank_node, block_nodes, nodes_from, vacant_cell, ◌++◌, ◌∷◌, []}
 use Rattle.dine_forks.proofs.Blocks.{given-cells, given-left, given-nodes, length-three, length_nodes, with_three}
 use Rattle.dine_forks.specs.declared.lists.block.Part.TheVariants as part
 use Rattle.dine_forks.proofs.lists.block.Block.give.Goals.{After-write-3}

@@ -1,4 +1,4 @@
-use Rattle.dine_forks.proofs.Words.{◌≡◌, None, block_nodes, Option, Some, arith, ap, subst, sym, ◌∙◌, ForkId, IsWritten, hung_nodes_in, id_below, linked_id, number_at, put_links_in, put_next_in}
+use Rattle.dine_forks.proofs.Words.{◌≡◌, None, block_nodes, Some, arith, ap, subst, sym, ◌∙◌, IsWritten, id_below, linked_id, number_at, put_links_in, put_next_in}
 use Rattle.dine_forks.proofs.Blocks.{below-number_or, below_room, id_below-is, id_has, is_in, is_in_same, length_nodes, linked_is, number_is, number_or_written}
 use Rattle.dine_forks.proofs.lists.block.Block.hang.Goals.{After-place-back}
 use Rattle.dine_forks.proofs.lists.block.Block.hang.Goals as goal

@@ -1,4 +1,4 @@
-use Rattle.dine_forks.proofs.Words.{ap, ◌∙◌, number_at, number_in}
+use Rattle.dine_forks.proofs.Words.{◌∙◌, number_at}
 use Rattle.dine_forks.proofs.Blocks.{filled_in, is_cell}
 use Rattle.dine_forks.specs.declared.lists.block.Part.TheVariants as part
 use Rattle.dine_forks.proofs.lists.block.Block.number_of.Goals as goal

@@ -1,4 +1,4 @@
-use Rattle.dine_forks.proofs.Words.{◌≡◌, ◌<◌, arith, ap, sym, ◌∙◌, refl, Some, None, Option, ForkId, IsIn, IsWritten, block_nodes, id_below, length, linked_id, put_link, ℕ, true, false, eqb, node_at, put_links_in, subst}
+use Rattle.dine_forks.proofs.Words.{◌≡◌, ◌<◌, arith, ap, sym, ◌∙◌, Some, None, Option, block_nodes, id_below, linked_id, put_link, ℕ, true, false, eqb, node_at, put_links_in, subst}
 use Rattle.dine_forks.proofs.Blocks.{all_both, id_below-is, id_below-past, id_has, is_in, is_in_same, last_written, length_nodes, linked_is, number_is, slot_both, written_same}
 use Rattle.dine_forks.specs.declared.lists.block.Part.TheVariants as part
 use Rattle.dine_forks.proofs.lists.block.Block.set_last.Goals as goal
