@@ -109,6 +109,9 @@ A header alone.
 A zero before a pass.
 < dine 1 64 256; 00 join -> joined 0.0
 > fault line 1
+A pass of more than 32 bits.
+< dine 1 64 256; 4294967296 join -> joined 0.0
+> fault line 1
 Withdraw is no word of the first version.
 < dine 1 64 256; 0 join -> joined 0.0; 0 hungry 0.0 -> done; 0 withdraw 0.0 -> done
 > fault line 3
@@ -152,11 +155,23 @@ A question in the setup.
 A name that nobody has in a step.
 < [[worker]]; steps = ["eat q"]
 > fault worker 0 step 1 unbound
+A line feed in a step.
+< [[worker]]; steps = ["eat a\nb"]
+> fault worker 0 step 1 words
 No worker.
 < tasks = 1
 > fault scenario
 Too many tasks.
 < tasks = 4097; [[worker]]; steps = []
+> fault scenario
+A worker that is a number.
+< worker = 3
+> fault scenario
+A key that no scenario has.
+< speed = 1; [[worker]]; steps = []
+> fault scenario
+A step that is a number.
+< [[worker]]; steps = [3]
 > fault scenario
 A key without a value.
 < tasks =
@@ -203,5 +218,5 @@ fn worked_rows_are_answered(rt: HostRuntime) {
             name = line;
         }
     }
-    same(&rt, rows, 49);
+    same(&rt, rows, 54);
 }
