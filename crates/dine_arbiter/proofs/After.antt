@@ -1,7 +1,7 @@
 -- What the parts of an arbiter tell of what it is seen as, and what an accepted call leaves.
 use Rattle.std.proofs.Common.{◌≡◌, ℕ, zero, suc, ◌+◌, ◌<◌, true, not, List, [], ◌∷◌, length, get_or, set, map, replicate, Option, Some, None, IsSome, refl, sym, ap, ◌∙◌, subst, arith, get_or-set_same, eqb, inl, inr}
 use Rattle.std.proofs.lemmas.Bool.{cases_Bool, eq-eqb, ne_eqb}
-use Rattle.std.specs.List.{filter, list_all}
+use Rattle.std.specs.List.{filter, list_all, sum_by}
 use Rattle.std.specs.Option.{option_map}
 use Rattle.std.proofs.Math.ListN.{length-replicate}
 use Rattle.dine_words.specs.declared.call.Call.TheVariants as call
@@ -12,19 +12,22 @@ use Rattle.dine_table.specs.Table.{Table, same_task, state_of, are_in_conflict, 
 use Rattle.dine_table.specs.Calls.{has_no_room, refusal_of, refusal_unless, newcomer}
 use Rattle.dine_table.proofs.CallerLemmas.{found, or_else-None, ready_if, same_task-refl, same_task-true, sound_at_opening}
 use Rattle.dine_forks.specs.Book.{ForkBook, empty_book, are_joined, holds, slot_list, with_record, is_between as is_between_slots, ends_of}
-use Rattle.dine_forks.specs.Held.{given_up_at, is_asked_of}
-use Rattle.dine_arbiter.specs.Seats.{Task, State, Thinking, Hungry, Eating, Seat, ArePlaced, seats_last, state_at, state_in_seat, state_of_seat, first_free, stands_before_at}
+use Rattle.dine_forks.specs.Walking.{walk_costs, walked_at}
+use Rattle.dine_forks.specs.declared.rules.Reach.TheVariants as reach
+use Rattle.dine_arbiter.specs.declared.turn.Deed.TheVariants as deed
+use Rattle.dine_arbiter.specs.Turns.{turn_cost, turn_fork}
+use Rattle.dine_arbiter.specs.Seats.{Task, State, Thinking, Hungry, Eating, Seat, ArePlaced, seat_state, seats_last, seats_put, state_at, state_in_seat, state_of_seat, first_free, stands_before_at}
 use Rattle.dine_arbiter.specs.Records.{MayLink, ForkId, ForkRecord, conflict_of, neighbour_at, fork_of_new, messages_of_new}
 use Rattle.dine_arbiter.proofs.SlotEdges.{is_lawful_beside}
 use Rattle.dine_arbiter.specs.Arbitration.{Arbiter, CarriesOut, IsKeptArbiter, forks_of, slots_of}
 use Rattle.dine_arbiter.proofs.Earliest.{earliest_from, earliest-ready}
 use Rattle.dine_arbiter.proofs.Seated.{placed_seat}
 use Rattle.dine_arbiter.proofs.Seating.{slot-task_at, neighbours_in-records}
-use Rattle.dine_arbiter.proofs.Kept.{Carried, IsKeptIn, book_with, seated, in_range, carried-finish, seen, table_in, has_seat, has_slot, state_of-table_of, ready-holds_all}
+use Rattle.dine_arbiter.proofs.Kept.{Carried, IsKeptIn, book_with, seated, in_range, carried-finish, carried-hungry, seen, table_in, has_seat, has_slot, state_of-table_of, ready-holds_all}
 use Rattle.dine_arbiter.specs.declared.arbiter.Arbiter.TheInside.{Inside}
 use Rattle.dine_words.specs.declared.call.Call.{Call}
-use Rattle.dine_arbiter.proofs.SlotWalks.{gives_up}
-use Rattle.dine_arbiter.proofs.Lawful.{lawful-around, slots-differ, state-seated}
+use Rattle.dine_arbiter.proofs.SlotWalks.{all_settled, finish_comes, hunger_comes}
+use Rattle.dine_arbiter.proofs.Lawful.{lawful-around, slots-differ, state-put, state-seated}
 use Rattle.dine_arbiter.proofs.Members.{newcomer-is, free_seat, carried-join}
 use Rattle.dine_arbiter.proofs.Stamps.{stands_before_at-is}
 use Rattle.dine_arbiter.proofs.Members.{full-is, joined-is, slots_differ, carried-separate, carried-conflict}
@@ -198,16 +201,26 @@ module _ (a : Inside) {v : Arbiter} (is : seen a ≡ v) (kept : IsKeptIn a) wher
 
   -- ---- calls that tell more of their tasks
 
-  -- once a task has eaten, its edges come to rest as it gives up its forks
+  -- once a task has grown hungry, its edges come to rest as it asks for the forks that it lacks
+  pub after_hunger : (u : Task) → refusal_of v.table (call.Hungry u) ≡ None
+      → let new = seats_put Hungry u a.seats in
+      Carried v (call.Hungry u) new a.present (book_with a (map (walked_at reach.Lacked (turn_fork deed.Hunger (seat_state new)) u.slot) a.book.records)) a.clock a.limits (sum_by (walk_costs reach.Lacked (turn_cost deed.Hunger (seat_state new)) u.slot) (slot_list u.slot a.book.records))
+  after_hunger u accepted =
+      let thinks = seated_in u Thinking accepted in let new = seats_put Hungry u a.seats in
+      let all = all_settled reach.Lacked Thinking Hungry hunger_comes new u.slot (state-put a.seats u Thinking Hungry thinks) a.book.records (lawful_in u Thinking _ thinks) in
+      rw (all.0, all.1) (left (carried-hungry a kept u) accepted)
+
+  -- once it has eaten, they do as it gives up those that it is asked for
   pub after_finish : (u : Task) → refusal_of v.table (call.Finish u) ≡ None
-      → Carried v (call.Finish u) (seats_last u a.clock a.seats) a.present (book_with a (map (given_up_at u.slot) a.book.records)) (a.clock + 1) a.limits (length (filter (is_asked_of u.slot) a.book.records))
+      → let new = seats_last u a.clock a.seats in
+      Carried v (call.Finish u) new a.present (book_with a (map (walked_at reach.Asked (turn_fork deed.Finish (seat_state new)) u.slot) a.book.records)) (a.clock + 1) a.limits (sum_by (walk_costs reach.Asked (turn_cost deed.Finish (seat_state new)) u.slot) (slot_list u.slot a.book.records))
   after_finish u accepted =
       let seat : Seat = record { diner = record { task = u; state = Thinking }; stamp = a.clock } in
       let eats = seated_in u Eating accepted in
       let (x, at, _) = seated a.seats u Eating eats in
       let thinks = ap state_of_seat (get_or-set_same a.seats u.slot (Some seat) None (in_range a.seats u.slot x at)) in
-      let gives = gives_up (seats_last u a.clock a.seats) u.slot thinks a.book.records (slots-differ a.seats a.book.records kept.sound.ends_differ) (lawful_in u Eating (Some seat) eats) in
-      rw (gives.0, gives.1) (left (carried-finish a kept u) accepted)
+      let all = all_settled reach.Asked Eating Thinking finish_comes (seats_last u a.clock a.seats) u.slot thinks a.book.records (lawful_in u Eating (Some seat) eats) in
+      rw (all.0, all.1) (left (carried-finish a kept u) accepted)
 
   -- what is left once a task has joined
   pub after_join : (u : Task) → u ≡ newcomer v.table → refusal_of v.table call.Join ≡ None

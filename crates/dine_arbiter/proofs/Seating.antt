@@ -158,43 +158,7 @@ placed_later clock slot [] h = tt
 placed_later clock slot (None ∷ xs) h = (tt, placed_later clock (slot + 1) xs h.1)
 placed_later clock slot (Some seat ∷ xs) h = ((h.0.0, let below : seat.stamp < clock = h.0.1 in omega arith), placed_later clock (slot + 1) xs h.1)
 
--- ---- a walk of a slot gives back what its task does that withdraws: one fork
-
--- our test of two answers is that of Rust
-same_bool-is : (a b : Bool) → same_bool a b ≡ beq a b
-same_bool-is true true = refl
-same_bool-is true false = refl
-same_bool-is false true = refl
-same_bool-is false false = refl
-
--- the token is one message at most
-token-le : (is_first : Bool) (fork : Fork) → token_messages is_first fork ≤ 1
-token-le is_first fork = grind arith
-
--- a fork and a token at most
-pub withdrawal_messages-le : (is_first : Bool) (fork : Fork) → withdrawal_messages is_first fork ≤ 2
-withdrawal_messages-le is_first fork = grind (arith, token-le is_first fork)
-
--- an end that lacks the fork gets the token
-pub withdrawn-lacks : (is_first : Bool) (fork : Fork) → not (beq fork.at_first is_first) ≡ true → withdrawn is_first fork ≡ with_token is_first fork
-withdrawn-lacks is_first fork lacks = let at : same_bool fork.at_first is_first ≡ false = same_bool-is fork.at_first is_first ∙ not-true (beq fork.at_first is_first) lacks in rw at refl
-
--- a dirty fork stays
-pub withdrawn-dirty : (is_first : Bool) (fork : Fork) → not (beq fork.at_first is_first) ≡ false → fork.dirty ≡ true → withdrawn is_first fork ≡ fork
-withdrawn-dirty is_first fork holds dirty = let at : same_bool fork.at_first is_first ≡ true = same_bool-is fork.at_first is_first ∙ not-false (beq fork.at_first is_first) holds in rw (at, dirty) refl
-
--- and a clean one goes
-pub withdrawn-clean : (is_first : Bool) (fork : Fork) → not (beq fork.at_first is_first) ≡ false → fork.dirty ≡ false → withdrawn is_first fork ≡ given_back_to (not is_first)
-withdrawn-clean is_first fork holds clean =
-    let at : same_bool fork.at_first is_first ≡ true = same_bool-is fork.at_first is_first ∙ not-false (beq fork.at_first is_first) holds in
-    let given : Bool → Bool → Fork = λ a b. record { at_first = not a; dirty = true; token_first = b } in
-    rw (at, clean) (ap (λ a. given a is_first) (same-side fork.at_first is_first (not-false (beq fork.at_first is_first) holds)) ∙ ap (given is_first) (twice is_first))
-  where
-    twice : (b : Bool) → b ≡ not (not b)
-    twice true = refl
-    twice false = refl
-
--- ---- and those of all records of the slot
+-- ---- what a task gives back that withdraws
 
 module _ (clock : ℕ) (seats : List (Option Seat)) (u : Task) (x : Seat) (h : ArePlaced clock 0 seats) (at : get_or seats u.slot None ≡ Some x) (same : same_task x.diner.task u ≡ true) where
   -- the forks once u has withdrawn are those of the records once its slot has

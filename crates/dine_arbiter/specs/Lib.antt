@@ -5,3 +5,4 @@ pub mod Seats
 pub mod Records
 pub mod Arbitration
 pub mod Hunger
+pub mod Turns

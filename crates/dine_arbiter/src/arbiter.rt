@@ -19,8 +19,8 @@ mod hunger;
 mod refusals;
 
 use crate::seats::{Seat, Seats, is_earlier};
+use crate::turn::Deed;
 use crate::walk;
-use crate::withdrawal::give_back;
 use dine_forks::ForkBook;
 use dine_words::{Call, Limits, Refusal, Reply, State, Task};
 use std::alloc::{AllocError, Global};
@@ -324,8 +324,8 @@ impl Arbiter {
         ensures { CarriesOut self.old (call.Hungry task) Done self.new }
     {
         self.seats.set_state(task, State::Hungry);
-        // It was thinking, and its edges were at rest: so it has the request token of each fork that it lacks.
-        self.messages = self.book.ask_around(task.slot, &self.seats.states());
+        // It was thinking, and its edges were at rest: so nothing is to be sent for a fork that it has.
+        self.messages = self.book.walk(task.slot, &self.seats.turn(Deed::Hunger));
     }
 
     // A hungry task that holds all of its forks eats, and they get dirty.
@@ -346,7 +346,8 @@ impl Arbiter {
     {
         self.seats.seat_last(task, self.clock);
         self.clock += 1;
-        self.messages = self.book.give_up(task.slot);
+        // It was eating, with all of its forks dirty: so those that nobody asked for stay.
+        self.messages = self.book.walk(task.slot, &self.seats.turn(Deed::Finish));
     }
 
     // A hungry task thinks again without a meal, and gives back its clean forks and the tokens that it sent.
@@ -355,6 +356,6 @@ impl Arbiter {
         ensures { CarriesOut self.old (call.Withdraw task) Done self.new }
     {
         self.seats.set_state(task, State::Thinking);
-        self.messages = give_back(&mut self.book, task.slot);
+        self.messages = self.book.walk(task.slot, &self.seats.turn(Deed::Withdrawal));
     }
 }

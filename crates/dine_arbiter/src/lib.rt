@@ -6,8 +6,8 @@ mod edge;
 mod law;
 mod seats;
 mod sent;
+mod turn;
 mod walk;
-mod withdrawal;
 
 pub use arbiter::Arbiter;
 pub use edge::settle_edge;

@@ -8,9 +8,10 @@ ghost use Rattle.dine_arbiter.specs.Seats.{earlier, first_free, is_sooner_at};
 ghost use Rattle.dine_arbiter.specs.Seats.{seat_at, seat_state, seats_last, seats_put, stands_before_at, state_at};
 ghost use Rattle.dine_arbiter.specs.Seats.{task_at};
 ghost use Rattle.dine_arbiter.specs.Hunger.{hungry_slots, is_anyone_hungry, is_hungry};
-ghost use Rattle.dine_arbiter.specs.Records.{answers_in, answers_of};
+ghost use Rattle.dine_arbiter.specs.Turns.{states_by};
 
-use dine_forks::{Holders, Response, SlotSet};
+use crate::turn::{Deed, Turn};
+use dine_forks::SlotSet;
 use dine_words::{Diner, State, Task};
 use std::alloc::{AllocError, Global};
 use std::marker::Model;
@@ -212,13 +213,15 @@ impl Seats {
         self.states.get(slot)
     }
 
-    /// The state of the task at each slot, for a walk that asks their holders for forks.
+    /// What a task does at its edges, and the states of all tasks, for a walk of the records of its slot.
     #[inline(always)]
-    pub fn states(&self) -> SeatedStates<'_>
+    pub fn turn(&self, deed: Deed) -> Turn<'_>
+        ensures deed { result.deed ≡ deed }
         ensures places { length result.by_slot.now ≡ length self.now }
-        ensures answers { answers_in result.by_slot.now ≡ answers_of self.now }
+        ensures states { states_by result.by_slot.now ≡ seat_state self.now }
     {
-        SeatedStates {
+        Turn {
+            deed,
             by_slot: self.states.as_slice(),
         }
     }
@@ -341,30 +344,5 @@ pub fn is_earlier(next: Option<Seat>, found: Option<Seat>) -> bool
         (Some(seat), Some(best)) => seat.stamp < best.stamp,
         (Some(_), None) => true,
         (None, _) => false,
-    }
-}
-
-/// The states by slot, lent to a walk that asks: none of its steps reads anew where they lie.
-#[derive(Clone, Copy)]
-pub struct SeatedStates<'a> {
-    by_slot: &'a [State],
-}
-
-impl Holders for SeatedStates<'_> {
-    ghost use Rattle.std.specs.Prelude.{length};
-    ghost use Rattle.dine_arbiter.specs.Records.{answers_in};
-
-    ghost places = { λ states. length states.by_slot.now };
-
-    ghost answers = { λ states. answers_in states.by_slot.now };
-
-    // A task that thinks gives its forks, one that eats keeps them, and a hungry one keeps those that are clean.
-    #[inline(always)]
-    fn answer(&self, slot: u32) -> Response {
-        match self.by_slot[slot as usize] {
-            State::Thinking => Response::Gives,
-            State::Hungry => Response::GivesIfDirty,
-            State::Eating => Response::Keeps,
-        }
     }
 }

@@ -99,10 +99,10 @@ fn sent_together(dirty: bool, owner: State) -> Sent
     }
 }
 
-/// What is sent where one end, of the first state, has the token and the other the fork: a hungry requester asks for it, and a
-/// holder gives it away if it is dirty and not in use. A hungry holder asks for it again.
+// What is sent where one end, of the first state, has the token and the other the fork: a hungry requester asks for it, and a
+// holder gives it away if it is dirty and not in use. A hungry holder asks for it again.
 #[inline(always)]
-pub fn sent_apart(dirty: bool, asker: State, owner: State) -> Sent
+fn sent_apart(dirty: bool, asker: State, owner: State) -> Sent
     ensures { (fork : Fork) (first second : State) → has_both fork ≡ false → fork.dirty ≡ dirty →
         requester fork first second ≡ asker → holder fork first second ≡ owner →
         Settles fork first second (after result fork) (messages_in result) }

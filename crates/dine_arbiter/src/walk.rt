@@ -7,7 +7,7 @@ ghost use Rattle.dine_forks.specs.Book.{IsBook, are_joined, first_id, slot_list}
 ghost use Rattle.dine_arbiter.specs.Records.{MayLink, book_without_pair, book_without_slot, longer_book};
 ghost use Rattle.dine_arbiter.specs.Records.{messages_of_new, neighbour_at};
 
-use crate::edge::settle_new;
+use crate::edge::{new_fork, settle_edge};
 use crate::seats::Seats;
 use dine_forks::{ForkBook, ForkId};
 use dine_words::Task;
@@ -32,8 +32,8 @@ pub fn link_between(seats: &Seats, book: &mut ForkBook, first: u32, second: u32)
     ensures book { (id : ForkId) × (book.new ≡ longer_book seats.now id first second book.old) }
     ensures messages { result ≡ messages_of_new seats.now first second }
 {
-    let (fork, messages) = settle_new(
-        seats.is_sooner_at(first, second),
+    let (fork, messages) = settle_edge(
+        new_fork(seats.is_sooner_at(first, second)),
         seats.seat_state(first),
         seats.seat_state(second),
     );

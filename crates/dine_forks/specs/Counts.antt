@@ -1,117 +1,91 @@
--- How many forks each slot lacks, and is asked for: numbers that are kept beside its list.
-use Rattle.std.specs.Prelude.{◌≡◌, ℕ, ◌+◌, ◌-◌, ◌==◌, ◌<◌, ◌≤◌, Bool, true, false, if◌then◌else◌, List, length, map, filter, slice_index_or, slice_set}
-use Rattle.std.specs.List.{list_all}
-pub use Rattle.dine_forks.specs.declared.hands.Count.{Count}
-use Rattle.dine_forks.specs.Book.{ForkBook, ForkRecord, holds, slot_list}
-use Rattle.dine_forks.specs.Held.{holder, is_asked_of, is_non_holder, non_holder, requests_at}
+-- How many forks each slot lacks, and is asked for, and which slots lack some: what is kept beside the lists.
+use Rattle.std.specs.Prelude.{◌≡◌, ◌≢◌, ℕ, ◌+◌, ◌-◌, ◌==◌, ◌<◌, ◌≤◌, Bool, true, false, not, ◌&&◌, if◌then◌else◌, List, length, filter, slice_index_or, slice_set}
+pub use Rattle.dine_forks.specs.declared.counts.Count.{Count}
+use Rattle.dine_forks.specs.Book.{Fork, ForkBook, ForkRecord}
+use Rattle.dine_forks.specs.Held.{is_asked_of, is_non_holder}
 
 -- a slot that lacks no fork, and is asked for none
 abbrev pub no_count : Count
 no_count = record { lacked = 0; asked = 0 }
 
--- how many forks each slot lacks
-abbrev pub lackeds : List Count → List ℕ
-lackeds counts = map (λ (c : Count). c.lacked) counts
+-- the count of the slot
+abbrev pub count_at : List Count → ℕ → Count
+count_at counts slot = slice_index_or counts slot no_count
 
--- and how many that it has it is asked for
-abbrev pub askeds : List Count → List ℕ
-askeds counts = map (λ (c : Count). c.asked) counts
+-- ---- one fork
 
--- ---- one number changes
+-- 1 where it is so, and else 0
+abbrev pub one_if : Bool → ℕ
+one_if b = if b then 1 else 0
 
--- the number of the slot
-abbrev pub count_at : List ℕ → ℕ → ℕ
-count_at numbers slot = slice_index_or numbers slot 0
+-- the first end lacks the fork, or the second
+abbrev pub lacks : Bool → Fork → Bool
+lacks first fork = if first then not fork.at_first else fork.at_first
 
--- the slot's number is so many less, and then so many more
-abbrev pub changed : ℕ → ℕ → ℕ → List ℕ → List ℕ
-changed less more slot numbers = slice_set numbers slot (count_at numbers slot - less + more)
+-- it has the fork, and its request token: the other end has asked for it
+abbrev pub is_asked : Bool → Fork → Bool
+is_asked first fork = if first then fork.at_first && fork.token_first else not fork.at_first && not fork.token_first
 
--- it is so many more
-abbrev pub with_more : ℕ → ℕ → List ℕ → List ℕ
-with_more count slot numbers = changed 0 count slot numbers
+-- the count with a fork more, of which the slot is the first end or the second
+abbrev pub count_with : Bool → Fork → Count → Count
+count_with first fork c = record { lacked = c.lacked + one_if (lacks first fork); asked = c.asked + one_if (is_asked first fork) }
 
--- it is so many less
-abbrev pub with_less : ℕ → ℕ → List ℕ → List ℕ
-with_less count slot numbers = changed count 0 slot numbers
+-- the count with that fork less
+abbrev pub count_without : Bool → Fork → Count → Count
+count_without first fork c = record { lacked = c.lacked - one_if (lacks first fork); asked = c.asked - one_if (is_asked first fork) }
 
--- ---- a record comes, goes, or has its fork pass to the other end
+-- ---- one record
 
--- the record can come: its ends have numbers, and those aren't too large
+-- the count of the slot with a record more, if it is an end
+abbrev pub counted_more : ℕ → ForkRecord → Count → Count
+counted_more slot r c = if slot == r.first then count_with true r.fork c else if slot == r.second then count_with false r.fork c else c
+
+-- and with a record less
+abbrev pub counted_less : ℕ → ForkRecord → Count → Count
+counted_less slot r c = if slot == r.first then count_without true r.fork c else if slot == r.second then count_without false r.fork c else c
+
+-- the ends of the record are two slots with counts
+pub record AreCountedEnds (r : ForkRecord) (counts : List Count) : Type 0 where
+  pub differ : r.first ≢ r.second
+  pub first : r.first < length counts
+  pub second : r.second < length counts
+
+-- the record can come: its ends have counts that aren't too large
 pub record CanAdd (r : ForkRecord) (counts : List Count) : Type 0 where
-  pub slot : holder r < length counts
-  pub other : non_holder r < length counts
-  pub few : count_at (lackeds counts) (non_holder r) ≤ 65536
-  pub few_asked : count_at (askeds counts) (holder r) ≤ 65536
+  pub ends : AreCountedEnds r counts
+  pub few : (slot : ℕ) → slot < length counts → ((count_at counts slot).lacked ≤ 65536) × ((count_at counts slot).asked ≤ 65536)
 
--- it has come: an end lacks a fork more, and the other may be asked for it
-pub record HasAdded (r : ForkRecord) (old new : List Count) : Type 0 where
-  pub lacked : lackeds new ≡ with_more 1 (non_holder r) (lackeds old)
-  pub asked : askeds new ≡ with_more (requests_at r.fork) (holder r) (askeds old)
-
--- the record can go: its fork is counted at its ends
+-- it can go: its fork is counted at its ends
 pub record CanRemove (r : ForkRecord) (counts : List Count) : Type 0 where
-  pub slot : holder r < length counts
-  pub other : non_holder r < length counts
-  pub some : 1 ≤ count_at (lackeds counts) (non_holder r)
-  pub some_asked : requests_at r.fork ≤ count_at (askeds counts) (holder r)
+  pub ends : AreCountedEnds r counts
+  pub first : (one_if (lacks true r.fork) ≤ (count_at counts r.first).lacked) × (one_if (is_asked true r.fork) ≤ (count_at counts r.first).asked)
+  pub second : (one_if (lacks false r.fork) ≤ (count_at counts r.second).lacked) × (one_if (is_asked false r.fork) ≤ (count_at counts r.second).asked)
 
--- it has gone: no end lacks its fork any more, and none is asked for it
-pub record HasRemoved (r : ForkRecord) (old new : List Count) : Type 0 where
-  pub lacked : lackeds new ≡ with_less 1 (non_holder r) (lackeds old)
-  pub asked : askeds new ≡ with_less (requests_at r.fork) (holder r) (askeds old)
+-- ---- all records
 
--- a fork can pass from the giver, who is asked for it so many times, to the taker
-pub record CanPass (giver taker requests : ℕ) (counts : List Count) : Type 0 where
-  pub gives : giver < length counts
-  pub takes : taker < length counts
-  pub some : 1 ≤ count_at (lackeds counts) taker
-  pub few : count_at (with_less 1 taker (lackeds counts)) giver ≤ 65536
-  pub some_asked : requests ≤ count_at (askeds counts) giver
+-- how many records have the slot as the end that lacks the fork, and how many as a holder that is asked for it
+abbrev pub count_in : List ForkRecord → ℕ → Count
+count_in records slot = record { lacked = length (filter (is_non_holder slot) records); asked = length (filter (is_asked_of slot) records) }
 
--- it has passed: the taker lacks a fork less and the giver one more, who is asked for it no more
-pub record HasPassed (giver taker requests : ℕ) (old new : List Count) : Type 0 where
-  pub lacked : lackeds new ≡ with_more 1 giver (with_less 1 taker (lackeds old))
-  pub asked : askeds new ≡ with_less requests giver (askeds old)
+-- the slot is in the set
+abbrev pub is_member : List Bool → ℕ → Bool
+is_member lacking slot = slice_index_or lacking slot false
 
--- a slot can be asked for a fork as often as its token says now, in place of as often as it said before
-pub record CanAsk (slot before now : ℕ) (counts : List Count) : Type 0 where
-  pub within : slot < length counts
-  pub some : before ≤ count_at (askeds counts) slot
-  pub few : count_at (askeds counts) slot + now ≤ 4294967295
+-- the counts are those of the records, each slot has its mark or lacks it, and each member of the set lacks a fork. Who is no
+-- member may lack one too
+pub record IsTied (book : ForkBook) (counts : List Count) (marks lacking : List Bool) : Type 0 where
+  pub places : length counts ≡ book.slots
+  pub counted : (slot : ℕ) → slot < book.slots → count_at counts slot ≡ count_in book.records slot
+  pub marked : length marks ≡ book.slots
+  pub listed : length lacking ≡ book.slots
+  pub lack : (slot : ℕ) → is_member lacking slot ≡ true → 1 ≤ (count_at counts slot).lacked
 
--- ---- the numbers of all slots
+-- ---- the set
 
--- each slot's number is as the function says
-pub record CountsEachSlot (numbers : List ℕ) (slots : ℕ) (of_slot : ℕ → ℕ) : Type 0 where
-  pub places : length numbers ≡ slots
-  pub counts : (slot : ℕ) → slot < slots → count_at numbers slot ≡ of_slot slot
+-- the set, the slot being in it where it lacks so many that it lacks some
+abbrev pub kept_set : ℕ → ℕ → List Bool → List Bool
+kept_set slot lacked lacking = if lacked == 0 then lacking else slice_set lacking slot true
 
--- each slot's number is how many records have it as the end that lacks the fork
-abbrev pub AreLacked : List ℕ → ℕ → List ForkRecord → Type 0
-AreLacked lacked slots records = CountsEachSlot lacked slots (λ slot. length (filter (is_non_holder slot) records))
-
--- each slot's number is how many records have it as a holder that is asked for the fork
-abbrev pub AreAsked : List ℕ → ℕ → List ForkRecord → Type 0
-AreAsked asked slots records = CountsEachSlot asked slots (λ slot. length (filter (is_asked_of slot) records))
-
--- the numbers of forks that are lacked are so but for the taker, who has got so many forks since its number was written
-abbrev pub AreLackedBefore : ℕ → ℕ → List ℕ → ℕ → List ForkRecord → Type 0
-AreLackedBefore taker got lacked slots records =
-    CountsEachSlot lacked slots (λ slot. length (filter (is_non_holder slot) records) + (if slot == taker then got else 0))
-
--- those of the holders that are asked are so but for the giver, who has sent so many forks since its number was written
-abbrev pub AreAskedBefore : ℕ → ℕ → List ℕ → ℕ → List ForkRecord → Type 0
-AreAskedBefore giver sent asked slots records =
-    CountsEachSlot asked slots (λ slot. length (filter (is_asked_of slot) records) + (if slot == giver then sent else 0))
-
--- ---- who lacks a fork
-
--- each slot of the set lacks the fork of one of its records. Who is no member may lack one too
-pub record AreLacking (book : ForkBook) (lacking : List Bool) : Type 0 where
-  pub places : length lacking ≡ book.slots
-  pub lack : (slot : ℕ) → slice_index_or lacking slot false ≡ true → list_all (holds slot) (slot_list slot book.records) ≡ false
-
--- the set, and the slot is taken out where it lacks no fork
-abbrev pub relieved : ℕ → List ℕ → List Bool → List Bool
-relieved slot lacked lacking = if count_at lacked slot == 0 then slice_set lacking slot false else lacking
+-- the set, and the slot is taken out that has gained a fork and lacks none
+abbrev pub relieved : ℕ → Bool → ℕ → List Bool → List Bool
+relieved slot gained lacked lacking = if gained then (if lacked == 0 then slice_set lacking slot false else lacking) else lacking

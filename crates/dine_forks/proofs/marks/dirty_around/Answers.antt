@@ -1,7 +1,13 @@
-use Rattle.dine_forks.proofs.Words.{length, refl, ap, ◌∙◌, arith, book_with_fork, own_dirtied_at, own_dirtied_fork}
+use Rattle.dine_forks.proofs.Words.{ForkRecord, List, length, refl, sym, ap, ◌∙◌, arith, book_with_fork, own_dirtied_at, own_dirtied_fork}
 use Rattle.dine_forks.proofs.Marking.{own-dirt}
+use Rattle.dine_forks.proofs.Tied.{none-held}
 use Rattle.dine_forks.proofs.Walks.{at-record, changing-on, changing-start}
 use Rattle.dine_forks.proofs.marks.dirty_around.Goals as goal
+
+pub returns-then-degree-lacked : goal.returns-then-degree-lacked
+returns-then-degree-lacked c =
+    let lists = c.args.lists.now in
+    ap (λ (rs : List ForkRecord). record lists { records = rs }) (sym (none-held lists.slots c.args.slot lists.records c.are_sound.ensures.ends_are_slots (let few = c.if-degree-lacked.true in omega (arith, c.degree.ensures, c.requires.lacked))))
 
 pub loop-next-init : goal.loop-next-init
 loop-next-init c = changing-start c.args.slot (own_dirtied_fork c.args.slot) (own_dirtied_at c.args.slot) c.first_of-next.result c.args.lists.now c.first_of-next.ensures.sound.each_id_once c.first_of-next.ensures.first refl

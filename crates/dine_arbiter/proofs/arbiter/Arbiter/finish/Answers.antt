@@ -1,16 +1,25 @@
+use Rattle.std.proofs.Common.{length, is_some, ap, ◌∙◌, arith}
+use Rattle.std.proofs.Math.ListN.{length-set}
 use Rattle.dine_words.specs.declared.task.State.TheVariants.{Eating}
-use Rattle.std.proofs.Common.{ap, is_some}
 use Rattle.dine_arbiter.proofs.After.{reach_in, seated_in, after_finish}
 use Rattle.dine_arbiter.proofs.arbiter.Arbiter.finish.Goals as goal
 
 pub seat_last-requires : goal.seat_last-requires
 seat_last-requires c = ap is_some (seated_in c.self.inside c.self.view_is c.self.invariant c.args.task Eating c.requires.accepted)
 
-pub give_up-self-inside-requires : goal.give_up-self-inside-requires
-give_up-self-inside-requires c = (reach_in c.self.inside c.self.view_is c.self.invariant c.args.task Eating c.requires.accepted).1
+pub walk-self-inside-requires-clause-slot : goal.walk-self-inside-requires-clause-slot
+walk-self-inside-requires-clause-slot c = (reach_in c.self.inside c.self.view_is c.self.invariant c.args.task Eating c.requires.accepted).1
+
+pub walk-self-inside-requires-clause-known : goal.walk-self-inside-requires-clause-known
+walk-self-inside-requires-clause-known c =
+    let same = ap length c.seat_last.ensures ∙ length-set c.self.inside.seats c.args.task.slot _ in
+    let places = c.turn.ensures.places in
+    let seats = c.self.invariant.seat_for_each_slot in
+    let slots = c.self.invariant.slots_of_book in
+    omega arith
 
 pub invariant_of-self : goal.invariant_of-self
-invariant_of-self c = rw (c.give_up-self-inside.ensures.book, c.seat_last.ensures) (after_finish c.self.inside c.self.view_is c.self.invariant c.args.task c.requires.accepted).kept
+invariant_of-self c = rw (c.walk-self-inside.ensures.book, c.turn.ensures.deed, c.turn.ensures.states, c.seat_last.ensures) (after_finish c.self.inside c.self.view_is c.self.invariant c.args.task c.requires.accepted).kept
 
 pub returns : goal.returns
-returns c = rw (c.give_up-self-inside.ensures.sent, c.give_up-self-inside.ensures.book, c.seat_last.ensures) (after_finish c.self.inside c.self.view_is c.self.invariant c.args.task c.requires.accepted).done
+returns c = rw (c.walk-self-inside.ensures.messages, c.walk-self-inside.ensures.book, c.turn.ensures.deed, c.turn.ensures.states, c.seat_last.ensures) (after_finish c.self.inside c.self.view_is c.self.invariant c.args.task c.requires.accepted).done

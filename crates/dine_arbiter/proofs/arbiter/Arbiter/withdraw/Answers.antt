@@ -1,4 +1,5 @@
-use Rattle.std.proofs.Common.{is_some, ap}
+use Rattle.std.proofs.Common.{length, is_some, ap, ◌∙◌, arith}
+use Rattle.std.proofs.Math.ListN.{length-set}
 use Rattle.dine_words.specs.declared.task.State.TheVariants.{Hungry}
 use Rattle.dine_arbiter.proofs.Kept.{carried-withdraw}
 use Rattle.dine_arbiter.proofs.After.{reach_in, seated_in, left}
@@ -7,11 +8,19 @@ use Rattle.dine_arbiter.proofs.arbiter.Arbiter.withdraw.Goals as goal
 pub set_state-requires : goal.set_state-requires
 set_state-requires c = ap is_some (seated_in c.self.inside c.self.view_is c.self.invariant c.args.task Hungry c.requires.accepted)
 
-pub give_back-self-inside-requires : goal.give_back-self-inside-requires
-give_back-self-inside-requires c = (reach_in c.self.inside c.self.view_is c.self.invariant c.args.task Hungry c.requires.accepted).1
+pub walk-self-inside-requires-clause-slot : goal.walk-self-inside-requires-clause-slot
+walk-self-inside-requires-clause-slot c = (reach_in c.self.inside c.self.view_is c.self.invariant c.args.task Hungry c.requires.accepted).1
+
+pub walk-self-inside-requires-clause-known : goal.walk-self-inside-requires-clause-known
+walk-self-inside-requires-clause-known c =
+    let same = ap length c.set_state.ensures ∙ length-set c.self.inside.seats c.args.task.slot _ in
+    let places = c.turn.ensures.places in
+    let seats = c.self.invariant.seat_for_each_slot in
+    let slots = c.self.invariant.slots_of_book in
+    omega arith
 
 pub invariant_of-self : goal.invariant_of-self
-invariant_of-self c = rw (c.give_back-self-inside.ensures.book, c.set_state.ensures) (left c.self.inside c.self.view_is c.self.invariant (carried-withdraw c.self.inside c.self.invariant c.args.task) c.requires.accepted).kept
+invariant_of-self c = rw (c.walk-self-inside.ensures.book, c.turn.ensures.deed, c.turn.ensures.states, c.set_state.ensures) (left c.self.inside c.self.view_is c.self.invariant (carried-withdraw c.self.inside c.self.invariant c.args.task) c.requires.accepted).kept
 
 pub returns : goal.returns
-returns c = rw (c.give_back-self-inside.ensures.messages, c.give_back-self-inside.ensures.book, c.set_state.ensures) (left c.self.inside c.self.view_is c.self.invariant (carried-withdraw c.self.inside c.self.invariant c.args.task) c.requires.accepted).done
+returns c = rw (c.walk-self-inside.ensures.messages, c.walk-self-inside.ensures.book, c.turn.ensures.deed, c.turn.ensures.states, c.set_state.ensures) (left c.self.inside c.self.view_is c.self.invariant (carried-withdraw c.self.inside c.self.invariant c.args.task) c.requires.accepted).done
