@@ -13,7 +13,7 @@ use Rattle.dine_table.specs.Calls.{has_no_room, refusal_of, refusal_unless, newc
 use Rattle.dine_table.proofs.CallerLemmas.{found, or_else-None, ready_if, same_task-refl, same_task-true, sound_at_opening}
 use Rattle.dine_forks.specs.Book.{ForkBook, empty_book, are_joined, holds, slot_list, with_record, is_between as is_between_slots, ends_of}
 use Rattle.dine_forks.specs.Walking.{walk_costs, walked_at}
-use Rattle.dine_forks.specs.declared.rules.Reach.TheVariants as reach
+use Rattle.dine_forks.specs.declared.rules.Reach.TheVariants as within
 use Rattle.dine_arbiter.specs.declared.turn.Deed.TheVariants as deed
 use Rattle.dine_arbiter.specs.Turns.{turn_cost, turn_fork}
 use Rattle.dine_arbiter.specs.Seats.{Task, State, Thinking, Hungry, Eating, Seat, ArePlaced, seat_state, seats_last, seats_put, state_at, state_in_seat, state_of_seat, first_free, stands_before_at}
@@ -204,22 +204,22 @@ module _ (a : Inside) {v : Arbiter} (is : seen a ≡ v) (kept : IsKeptIn a) wher
   -- once a task has grown hungry, its edges come to rest as it asks for the forks that it lacks
   pub after_hunger : (u : Task) → refusal_of v.table (call.Hungry u) ≡ None
       → let new = seats_put Hungry u a.seats in
-      Carried v (call.Hungry u) new a.present (book_with a (map (walked_at reach.Lacked (turn_fork deed.Hunger (seat_state new)) u.slot) a.book.records)) a.clock a.limits (sum_by (walk_costs reach.Lacked (turn_cost deed.Hunger (seat_state new)) u.slot) (slot_list u.slot a.book.records))
+      Carried v (call.Hungry u) new a.present (book_with a (map (walked_at within.Lacked (turn_fork deed.Hunger (seat_state new)) u.slot) a.book.records)) a.clock a.limits (sum_by (walk_costs within.Lacked (turn_cost deed.Hunger (seat_state new)) u.slot) (slot_list u.slot a.book.records))
   after_hunger u accepted =
       let thinks = seated_in u Thinking accepted in let new = seats_put Hungry u a.seats in
-      let all = all_settled reach.Lacked Thinking Hungry hunger_comes new u.slot (state-put a.seats u Thinking Hungry thinks) a.book.records (lawful_in u Thinking _ thinks) in
+      let all = all_settled within.Lacked Thinking Hungry hunger_comes new u.slot (state-put a.seats u Thinking Hungry thinks) a.book.records (lawful_in u Thinking _ thinks) in
       rw (all.0, all.1) (left (carried-hungry a kept u) accepted)
 
   -- once it has eaten, they do as it gives up those that it is asked for
   pub after_finish : (u : Task) → refusal_of v.table (call.Finish u) ≡ None
       → let new = seats_last u a.clock a.seats in
-      Carried v (call.Finish u) new a.present (book_with a (map (walked_at reach.Asked (turn_fork deed.Finish (seat_state new)) u.slot) a.book.records)) (a.clock + 1) a.limits (sum_by (walk_costs reach.Asked (turn_cost deed.Finish (seat_state new)) u.slot) (slot_list u.slot a.book.records))
+      Carried v (call.Finish u) new a.present (book_with a (map (walked_at within.Asked (turn_fork deed.Finish (seat_state new)) u.slot) a.book.records)) (a.clock + 1) a.limits (sum_by (walk_costs within.Asked (turn_cost deed.Finish (seat_state new)) u.slot) (slot_list u.slot a.book.records))
   after_finish u accepted =
       let seat : Seat = record { diner = record { task = u; state = Thinking }; stamp = a.clock } in
       let eats = seated_in u Eating accepted in
       let (x, at, _) = seated a.seats u Eating eats in
       let thinks = ap state_of_seat (get_or-set_same a.seats u.slot (Some seat) None (in_range a.seats u.slot x at)) in
-      let all = all_settled reach.Asked Eating Thinking finish_comes (seats_last u a.clock a.seats) u.slot thinks a.book.records (lawful_in u Eating (Some seat) eats) in
+      let all = all_settled within.Asked Eating Thinking finish_comes (seats_last u a.clock a.seats) u.slot thinks a.book.records (lawful_in u Eating (Some seat) eats) in
       rw (all.0, all.1) (left (carried-finish a kept u) accepted)
 
   -- what is left once a task has joined

@@ -1,14 +1,14 @@
 -- Records between slots are the conflicts between the tasks in them.
-use Rattle.std.proofs.Common.{◌≡◌, ℕ, zero, suc, ◌+◌, ◌<◌, Bool, true, false, not, cond, eqb, List, [], ◌∷◌, length, get_or, set, map, Option, Some, None, is_some, inl, inr, refl, sym, ap, ◌∙◌, subst, arith, add-zero, get_or-set_same, get_or-set_other, ◌≤◌}
+use Rattle.std.proofs.Common.{◌≡◌, ℕ, zero, suc, ◌+◌, ◌<◌, Bool, true, false, not, cond, eqb, List, [], ◌∷◌, length, get_or, set, map, Option, Some, None, is_some, inl, inr, refl, sym, ap, ◌∙◌, subst, arith, add-zero, get_or-set_same, get_or-set_other}
 use Rattle.std.specs.List.{AllByRecursion, list_all, filter, sum_by}
-use Rattle.std.proofs.lemmas.Bool.{cases_Bool, eqb-true, eqb-false, or_parts, not-false, not-true}
+use Rattle.std.proofs.lemmas.Bool.{cases_Bool, eqb-true, eqb-false, or_parts}
 use Rattle.std.proofs.lemmas.List.Sums.{sum_by-cons}
 use Rattle.dine_table.specs.Table.{same_task, state_in, has_end, is_between, neighbours_in}
 use Rattle.dine_table.specs.Sound.{EndsPresent}
 use Rattle.dine_table.proofs.CallerLemmas.{diner_put_in-task, same_task-refl, same_task-true}
-use Rattle.dine_forks.specs.Book.{changed_where, is_end, holds, slot_list, is_between as is_between_slots, given_back_to, with_token}
+use Rattle.dine_forks.specs.Book.{changed_where, is_end, holds, slot_list, is_between as is_between_slots}
 use Rattle.dine_forks.specs.Held.{dirtied_at}
-use Rattle.dine_arbiter.specs.Edge.{SettlesEnd, SettlesAround, holds_all, dirtied_around, same_bool, token_messages, withdrawn, withdrawal_messages, withdrawn_around, withdrawal_messages_around}
+use Rattle.dine_arbiter.specs.Edge.{SettlesEnd, SettlesAround, holds_all, dirtied_around, withdrawn_around, withdrawal_messages_around}
 use Rattle.dine_arbiter.specs.Forks.{forks_kept}
 use Rattle.dine_arbiter.specs.Seats.{Task, State, Seat, by_stamp, IsPlaced, ArePlaced, put_in_seat, state_in_seat, task_in_seat, task_at, state_of_seat, seat_state}
 use Rattle.dine_arbiter.specs.Records.{Fork, ForkRecord, conflict_of, neighbour_at, withdrawn_at, withdrawal_messages_of}
@@ -16,8 +16,6 @@ use Rattle.dine_arbiter.proofs.SlotEdges.{messages_of, settled_at}
 use Rattle.dine_arbiter.specs.Arbitration.{forks_of}
 use Rattle.dine_arbiter.proofs.Settling.{settles-settled}
 use Rattle.dine_arbiter.proofs.Seated.{placed_at, state_in-by_stamp}
-use Rattle.std.proofs.Math.Bool.{beq}
-use Rattle.dine_forks.proofs.CallerLemmas.{same-side}
 
 -- ---- the task in a seat
 

@@ -1,7 +1,7 @@
 -- What the walks of a slot bring to rest. A task that grows hungry has nothing to send for the forks that it has, where its
 -- edges are lawful, and one that has eaten has nothing to send for those that nobody asked for. So a walk of the others settles
 -- all of its edges.
-use Rattle.std.proofs.Common.{◌≡◌, ℕ, Bool, true, cond, eqb, List, [], ◌∷◌, map, Option, inl, inr, refl, sym, ◌∙◌, ap, ◌+◌}
+use Rattle.std.proofs.Common.{◌≡◌, ℕ, Bool, true, cond, eqb, List, [], ◌∷◌, map, Option, inl, inr, refl, sym, ◌∙◌, ap}
 use Rattle.std.specs.List.{list_all, sum_by}
 use Rattle.std.proofs.lemmas.Bool.{and_parts, cases_Bool}
 use Rattle.std.proofs.lemmas.List.Sums.{sum_by-cons}

@@ -3,10 +3,9 @@ use Rattle.std.proofs.Common.{◌≡◌, ℕ, ◌+◌, Bool, true, false, not, L
 use Rattle.std.specs.List.{list_any, filter}
 use Rattle.std.proofs.lemmas.Bool.{cases_Bool, or_parts}
 use Rattle.std.proofs.lemmas.Bool.Decides.{nat_tests}
-use Rattle.dine_forks.specs.Book.{EachIdOnce, EachPairOnce, has_id, is_end, is_between, is_in_use, are_joined, slot_list, first_id, without, ForkBook, behind, reached, record_of, with_fork}
-use Rattle.dine_arbiter.specs.Records.{ForkId, ForkRecord, Fork}
-use Rattle.dine_forks.proofs.CallerLemmas.{any-filter, first-used, length-without, once-filter, same_id-refl, same_id-true, without-absent, IsWalk, at-visit, put_all, reads, rest_of, writes, wrote}
-use Rattle.dine_forks.specs.declared.record.Onward.{Onward}
+use Rattle.dine_forks.specs.Book.{EachIdOnce, EachPairOnce, has_id, is_end, is_between, is_in_use, are_joined, slot_list, first_id, without, behind, record_of}
+use Rattle.dine_arbiter.specs.Records.{ForkId, ForkRecord}
+use Rattle.dine_forks.proofs.CallerLemmas.{any-filter, first-used, length-without, once-filter, same_id-refl, same_id-true, without-absent, IsWalk, at-visit, reads, rest_of}
 
 -- there is a first record that passes exactly where some record passes
 pub is_some-first_id : (test : ForkRecord → Bool) (rs : List ForkRecord) → is_some (first_id (filter test rs)) ≡ list_any test rs

@@ -1,5 +1,5 @@
 -- What the book's records stand for, and what a call does to those of a slot.
-use Rattle.std.specs.Prelude.{◌≡◌, ℕ, ◌==◌, ◌<◌, false, length, not, List, map, filter, Option}
+use Rattle.std.specs.Prelude.{◌≡◌, ℕ, ◌==◌, ◌<◌, false, length, not, List, filter, Option}
 use Rattle.dine_words.specs.declared.task.Task.{Task}
 pub use Rattle.dine_forks.specs.declared.record.Fork.{Fork}
 pub use Rattle.dine_forks.specs.declared.record.ForkId.{ForkId}

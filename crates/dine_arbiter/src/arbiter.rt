@@ -356,6 +356,8 @@ impl Arbiter {
         ensures { CarriesOut self.old (call.Withdraw task) Done self.new }
     {
         self.seats.set_state(task, State::Thinking);
-        self.messages = self.book.walk(task.slot, &self.seats.turn(Deed::Withdrawal));
+        self.messages = self
+            .book
+            .walk(task.slot, &self.seats.turn(Deed::Withdrawal));
     }
 }

@@ -442,8 +442,7 @@ pub found-alike : (old new : ForkBook) (old_marks marks : List Bool) (id : ForkI
     → (x : ForkRecord) × (record_of id new.records ≡ Some x) × (x.first ≡ r.first) × (x.second ≡ r.second) × IsSided r.fork x.fork
 found-alike old new old_marks marks id r same found =
     let used = sym (is_in_use-seen marks id new.records) ∙ ap (λ (b : ForkBook). is_in_use id b.records) same.same ∙ is_in_use-seen old_marks id old.records ∙ found-used id old.records r found in
-    let (x, at) = found_if_in_use id new.records used in
-    (
+    let (x, at) = found_if_in_use id new.records used in (
       x,
       at,
       one (λ (y : ForkRecord). y.first) (λ y. refl) x at,
@@ -512,7 +511,7 @@ module _ (book : ForkBook) (counts : List Count) (marks lacking : List Bool) (id
   pub tied-removed : (new : List Count) → length new ≡ length counts → ((s : ℕ) → count_at new s ≡ counted_less s r (count_at counts s)) → IsTied (record book { records = without id book.records }) new marks (relieved (non_holder r) true (count_at new (non_holder r)).lacked lacking)
   tied-removed new long less =
       let counted : (s : ℕ) → s < book.slots → count_at new s ≡ count_in (without id book.records) s = λ s below.
-          less s ∙ ap (counted_less s r) (h.counted s below) ∙ sym (count-gone book.records id r sound.each_id_once found (ends_in book id r sound found).differ s) in
+      less s ∙ ap (counted_less s r) (h.counted s below) ∙ sym (count-gone book.records id r sound.each_id_once found (ends_in book id r sound found).differ s) in
       let place : non_holder r < length lacking = rw h.listed taker-in in
       record {
         places = long ∙ h.places;

@@ -1,5 +1,12 @@
-use Rattle.std.proofs.Common.{length, is_some, ap, ◌∙◌, arith}
+use Rattle.std.proofs.Common.{ℕ, length, is_some, ap, ◌∙◌, arith}
 use Rattle.std.proofs.Math.ListN.{length-set}
+use Rattle.std.specs.List.{sum_by}
+use Rattle.dine_forks.specs.Book.{slot_list}
+use Rattle.dine_forks.specs.Walking.{walk_costs}
+use Rattle.dine_arbiter.specs.declared.turn.Deed.{Deed}
+use Rattle.dine_arbiter.specs.declared.turn.Deed.TheVariants as deed
+use Rattle.dine_arbiter.specs.Seats.{State, seat_state}
+use Rattle.dine_arbiter.specs.Turns.{reach_of, states_by, turn_cost}
 use Rattle.dine_words.specs.declared.task.State.TheVariants.{Eating}
 use Rattle.dine_arbiter.proofs.After.{reach_in, seated_in, after_finish}
 use Rattle.dine_arbiter.proofs.arbiter.Arbiter.finish.Goals as goal
@@ -22,4 +29,10 @@ pub invariant_of-self : goal.invariant_of-self
 invariant_of-self c = rw (c.walk-self-inside.ensures.book, c.turn.ensures.deed, c.turn.ensures.states, c.seat_last.ensures) (after_finish c.self.inside c.self.view_is c.self.invariant c.args.task c.requires.accepted).kept
 
 pub returns : goal.returns
-returns c = rw (c.walk-self-inside.ensures.messages, c.walk-self-inside.ensures.book, c.turn.ensures.deed, c.turn.ensures.states, c.seat_last.ensures) (after_finish c.self.inside c.self.view_is c.self.invariant c.args.task c.requires.accepted).done
+returns c =
+    let slot = c.args.task.slot in
+    let cost : Deed → (ℕ → State) → ℕ = λ d s. sum_by (walk_costs (reach_of d) (turn_cost d s) slot) (slot_list slot c.self.inside.book.records) in
+    let messages =
+    c.walk-self-inside.ensures.messages ∙ ap (λ d. cost d (states_by c.turn.result.by_slot.now)) c.turn.ensures.deed
+    ∙ ap (cost deed.Finish) (c.turn.ensures.states ∙ ap seat_state c.seat_last.ensures) in
+    rw (messages, c.walk-self-inside.ensures.book, c.turn.ensures.deed, c.turn.ensures.states, c.seat_last.ensures) (after_finish c.self.inside c.self.view_is c.self.invariant c.args.task c.requires.accepted).done
