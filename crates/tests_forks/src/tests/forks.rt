@@ -4,7 +4,7 @@ ghost use Rattle.std.specs.Prelude.{◌≡◌, ◌<◌, ◌≤◌, IfOk};
 ghost use Rattle.dine_forks.specs.Book.{FitsBook};
 
 use crate::tests::same::same;
-use dine_forks::{Fork, ForkBook};
+use dine_forks::{End, Fork, ForkBook, Reach, Rules};
 use std::alloc::Global;
 use std::test::Fail;
 
@@ -254,6 +254,35 @@ fn what_is_left_of_a_walk_keeps_its_order(rt: HostRuntime) -> Result<(), Fail> {
     Ok(())
 }
 
+// Rules by which each fork that is reached goes to the other end, clean, as one message.
+struct Sends;
+
+impl Rules for Sends {
+    ghost use Rattle.dine_forks.specs.declared.rules.Reach.TheVariants.{Asked};
+    ghost use Rattle.std.specs.Prelude.{false, not};
+
+    ghost places = { λ _. 65536 };
+
+    ghost reach = { λ _. Asked };
+
+    ghost forks = { λ _ _ _ fork. record fork { at_first = not fork.at_first; dirty = false } };
+
+    ghost costs = { λ _ _ _ _. 1 };
+
+    fn reach(&self) -> Reach {
+        Reach::Asked
+    }
+
+    fn settle(&self, _end: End, _other: u32, fork: Fork) -> (Fork, u32) {
+        let sent = Fork {
+            at_first: !fork.at_first,
+            dirty: false,
+            ..fork
+        };
+        (sent, 1)
+    }
+}
+
 const FIVE_OF_WHICH_TWO_ARE_SENT: [Link; 5] = [
     (0, 1, SECOND_IS_ASKED),
     (1, 2, FIRST_IS_ASKED),
@@ -273,11 +302,20 @@ fn forks_of_the_second(book: &ForkBook) -> [Option<Fork>; 3]
     ]
 }
 
+// Sends the forks of a slot that are asked for, and tells how many those are.
+fn sends(book: &mut ForkBook, slot: u32) -> u32
+    requires slot { slot < book.old.slots }
+    requires few { book.old.slots ≤ 65536 }
+    ensures { book.new.slots ≡ book.old.slots }
+{
+    book.walk(slot, &Sends)
+}
+
 #[test]
 fn a_slot_gives_up_the_forks_that_are_asked_for(rt: HostRuntime) -> Result<(), Fail> {
     let mut book = book_of(rt.alloc(), 5, 5, &FIVE_OF_WHICH_TWO_ARE_SENT)?;
     // Two are sent, the third is kept, the fourth is the neighbour's, and the fifth is elsewhere.
-    same(&rt, book.give_up(1), 2);
+    same(&rt, sends(&mut book, 1), 2);
     same(
         &rt,
         forks_of_the_second(&book),
@@ -288,7 +326,7 @@ fn a_slot_gives_up_the_forks_that_are_asked_for(rt: HostRuntime) -> Result<(), F
     // The numbers of forks follow: the slots 0 and 2 have all of theirs now.
     same(&rt, holders(&book), [true, false, true]);
     // Nobody asks for the one that it kept.
-    same(&rt, book.give_up(1), 0);
+    same(&rt, sends(&mut book, 1), 0);
     Ok(())
 }
 
@@ -321,7 +359,7 @@ fn forks_in_use_are_dirty_until_they_are_sent(rt: HostRuntime) -> Result<(), Fai
     same(&rt, takes_in_use(&mut book, 1), true);
     same(&rt, forks_on_either_side(&book), IN_USE);
     // The first is kept, and the second sent, clean.
-    same(&rt, book.give_up(1), 1);
+    same(&rt, sends(&mut book, 1), 1);
     same(&rt, forks_on_either_side(&book), [Some(F), Some(G)]);
     Ok(())
 }
@@ -377,16 +415,5 @@ fn a_search_reads_the_list_of_the_end_with_fewer_records(rt: HostRuntime) -> Res
     same(&rt, found(&book, 2, 1), (None, 1));
     same(&rt, found(&book, 1, 3), (Some((3, 1)), 2));
     same(&rt, found(&book, 3, 1), (Some((3, 1)), 2));
-    Ok(())
-}
-
-#[test]
-fn a_clean_fork_is_given_back(rt: HostRuntime) -> Result<(), Fail> {
-    let mut book = ForkBook::new(rt.alloc(), 2, 1)?;
-    let x = book.link(0, 1, CLEAN).ok_or("an empty book has room")?;
-    book.give_back(x, 0, 1, false);
-    same(&rt, book.fork(x), H);
-    same(&rt, book.holds_all(1), true);
-    same(&rt, book.holds_all(0), false);
     Ok(())
 }
