@@ -18,10 +18,6 @@ marked-other marks slot other b e = get_or-set_other marks slot other b false (�
 pub marked-same : (marks : List Bool) (slot other : ℕ) (b : Bool) → slot < length marks → eqb slot other ≡ true → is_marked (set marks slot b) other ≡ b
 marked-same marks slot other b within e = subst (λ k. is_marked (set marks slot b) k ≡ b) (eqb-true slot other e) (get_or-set_same marks slot b false within)
 
--- a mark that is taken off is gone
-pub marked_off : (marks : List Bool) (slot : ℕ) → slot < length marks → is_marked (set marks slot false) slot ≡ false
-marked_off marks slot within = marked-same marks slot slot false within (eq-eqb slot slot refl)
-
 -- two changes are one where they are one on each record
 pub map-alike : {X Y : Type 0} (f g : X → Y) → ((x : X) → f x ≡ g x) → (xs : List X) → map f xs ≡ map g xs
 map-alike f g same [] = refl

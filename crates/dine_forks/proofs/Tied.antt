@@ -36,22 +36,6 @@ no-end false s r one two = (grind arith, grind arith)
 pub same-count : (a b : Count) → a.lacked ≡ b.lacked → a.asked ≡ b.asked → a ≡ b
 same-count a b lacked asked = grind (arith, lacked, asked)
 
--- ---- a count of a list of numbers
-
--- one slot has another count
-pub count_at-set : (counts : List Count) (i s : ℕ) (c : Count) → i < length counts → count_at (set counts i c) s ≡ (if s == i then c else count_at counts s)
-count_at-set counts i s c within = elim (cases_Bool (eqb s i)) [
-  | inl e ↦ rw (e, eqb-true s i e) (get_or-set_same counts i c no_count within)
-  | inr e ↦ rw e (get_or-set_other counts i s c no_count (eqb-false s i e))
-]
-
--- a member of the set is one once another slot is put in or out
-pub member-set : (lacking : List Bool) (i s : ℕ) (b : Bool) → i < length lacking → is_member (set lacking i b) s ≡ (if s == i then b else is_member lacking s)
-member-set lacking i s b within = elim (cases_Bool (eqb s i)) [
-  | inl e ↦ rw (e, eqb-true s i e) (get_or-set_same lacking i b false within)
-  | inr e ↦ rw e (get_or-set_other lacking i s b false (eqb-false s i e))
-]
-
 -- ---- records come, go and change
 
 -- the count of a slot, once a fork is counted in place of another at the two ends of a record

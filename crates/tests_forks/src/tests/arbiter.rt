@@ -113,12 +113,12 @@ const CASES: [Case; 14] = [
             conflict 0.0 1.1 -> done; lacks 0 -> 0; hungry 0.0 -> done, 2; lacks 0 -> 0; \
             hungry 1.1 -> done, 1; lacks 0 -> 2; conflict 1.1 2.2 -> done, 2; lacks 0 -> 2; \
             hungry 2.2 -> done, 1; lacks 0 -> 6; begin 0.0 -> done; lacks 0 -> 6; \
-            finish 0.0 -> done, 1; lacks 0 -> 4; begin 1.1 -> done; lacks 0 -> 4; \
-            separate 1.1 2.2 -> done; lacks 0 -> 0; begin 2.2 -> done; lacks 0 -> 0; \
-            hungry 0.0 -> done, 1; lacks 0 -> 1; finish 1.1 -> done, 1; lacks 0 -> 0; \
-            hungry 1.1 -> done, 1; lacks 0 -> 2; withdraw 0.0 -> done, 1; lacks 0 -> 0; \
-            hungry 0.0 -> done, 3; lacks 0 -> 0; withdraw 1.1 -> done, 1; lacks 0 -> 0; \
-            begin 0.0 -> done; lacks 0 -> 0",
+            finish 0.0 -> done, 1; lacks 0 -> 5; begin 1.1 -> done; lacks 0 -> 5; \
+            separate 1.1 2.2 -> done; lacks 0 -> 1; begin 2.2 -> done; lacks 0 -> 1; \
+            hungry 0.0 -> done, 1; lacks 0 -> 1; finish 1.1 -> done, 1; lacks 0 -> 2; \
+            hungry 1.1 -> done, 1; lacks 0 -> 2; withdraw 0.0 -> done, 1; lacks 0 -> 1; \
+            hungry 0.0 -> done, 3; lacks 0 -> 0; withdraw 1.1 -> done, 1; lacks 0 -> 2; \
+            begin 0.0 -> done; lacks 0 -> 2",
     },
     Case {
         name: "who lacks a fork is told in each word",
@@ -126,7 +126,7 @@ const CASES: [Case; 14] = [
         steps: "all -> join; conflict 64.64 127.127 -> done; lacks 1 -> 0; \
             hungry 64.64 -> done, 2; lacks 1 -> 0; hungry 127.127 -> done, 1; \
             lacks 1 -> 9223372036854775808; lacks 0 -> 0; withdraw 64.64 -> done, 1; \
-            lacks 1 -> 0; begin 127.127 -> done; lacks 1 -> 0",
+            lacks 1 -> 1; begin 127.127 -> done; lacks 1 -> 1",
     },
     Case {
         name: "a task withdraws beside a thinker, a hungry one and an eater, and gives a clean fork back dirty",
