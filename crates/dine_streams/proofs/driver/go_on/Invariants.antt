@@ -1,0 +1,12 @@
+use Rattle.std.proofs.Common.{◌≡◌, []}
+use Rattle.dine_streams.proofs.Listening.{IsAnswered}
+use Rattle.dine_streams.proofs.driver.go_on.Given as goal
+
+-- what was heard so far is answered, and nothing waits to be written
+abbrev pub invariant-reads : goal.invariant-reads
+invariant-reads g l = record {
+  none_pending : l.pending.items ≡ [];
+  answered : IsAnswered g.M.Machine.rules l.initial.machine l.machine l.buffer (g.R.Source.remaining l.initial.reader) (g.R.Source.remaining l.reader) (g.W.Sink.contents l.initial.writer) (g.W.Sink.contents l.writer);
+  read_unmarked : g.R.Source.mark l.reader ≡ g.R.Source.mark l.initial.reader;
+  write_unmarked : g.W.Sink.mark l.writer ≡ g.W.Sink.mark l.initial.writer;
+}

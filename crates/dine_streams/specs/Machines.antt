@@ -1,0 +1,41 @@
+-- What a command is, as a function of the lines of its input: which lines it prints, and where each line leaves it.
+use Rattle.std.specs.Prelude.{◌≡◌, ℕ, ◌<◌, length, List, [], ◌∷◌, ◌++◌, Option}
+use Rattle.dine_words.specs.Texts.{text_of_lines}
+use Rattle.dine_streams.specs.Lines.{begun_line, kept_of, seen_lines}
+
+-- what a command prints before any line comes; what it prints for a line, and where that leaves it; and both for what has
+-- begun at the end of the input and has no line feed
+pub record Rules (S : Type 0) : Type 0 where
+  pub prints_first : S → List (List ℕ)
+  pub prints : S → Option (List ℕ) → List (List ℕ)
+  pub after : S → Option (List ℕ) → S
+  pub prints_last : S → List ℕ → List (List ℕ)
+  pub after_last : S → List ℕ → S
+
+-- what it prints for lines, one after the other
+abbrev pub printed_from : {S : Type 0} → Rules S → S → List (Option (List ℕ)) → List (List ℕ)
+printed_from m s [] = []
+printed_from m s (line ∷ lines) = m.prints s line ++ printed_from m (m.after s line) lines
+
+-- where they leave it
+abbrev pub standing_from : {S : Type 0} → Rules S → S → List (Option (List ℕ)) → S
+standing_from m s [] = s
+standing_from m s (line ∷ lines) = standing_from m (m.after s line) lines
+
+-- what it prints for an input
+abbrev pub printed_for : {S : Type 0} → Rules S → S → List ℕ → List (List ℕ)
+printed_for m s input =
+    printed_from m s (seen_lines [] input) ++ m.prints_last (standing_from m s (seen_lines [] input)) (kept_of (begun_line [] input))
+
+-- where that leaves it
+abbrev pub standing_after : {S : Type 0} → Rules S → S → List ℕ → S
+standing_after m s input = m.after_last (standing_from m s (seen_lines [] input)) (kept_of (begun_line [] input))
+
+-- the first line of a text was taken, what is printed for it is appended, and the rest comes after it
+pub record TakesFirst {S : Type 0} (m : Rules S) (s s' : S) (text rest before after : List ℕ) : Type 0 where
+  pub line : Option (List ℕ)
+  pub seen : seen_lines [] text ≡ line ∷ seen_lines [] rest
+  pub begun : begun_line [] rest ≡ begun_line [] text
+  pub shorter : length rest < length text
+  pub leaves : s' ≡ m.after s line
+  pub printed : after ≡ before ++ text_of_lines (m.prints s line)
