@@ -16,7 +16,7 @@ use Rattle.dine_words.specs.Texts.{call_text, entry_text, header_text, reply_tex
 use Rattle.dine_words.specs.Versions.{written_version}
 use Rattle.dine_words.proofs.CallerLemmas.{number_at-decimal}
 use Rattle.dine_journal.specs.JournalText.{entry_lines, header_line, journal_text}
-use Rattle.dine_streams.specs.Lines.{begun_line, seen_lines}
+use Rattle.dine_streams.specs.Lines.{begun_line, kept_of, seen_lines}
 use Rattle.dine_serve.specs.declared.request_fault.LineFault.{LineFault}
 use Rattle.dine_serve.specs.declared.request.Request.{Request}
 use Rattle.dine_serve.specs.declared.request.Request.TheVariants.{Ask, Order, Numbered}
@@ -117,9 +117,9 @@ begun-journal s (byte ∷ bytes) = refl
 pub said_to_input-journal : (s : Broker) (input : List ℕ) → AllLow s.awaits → filter is_of_journal (said_to_input s input) ≡ map entry_text (entries_from s (seen_lines [] input))
 said_to_input-journal s input low =
     let lines = seen_lines [] input in
-    let end = said_of_begun (standing_from s lines) (begun_line [] input) in
+    let end = said_of_begun (standing_from s lines) (kept_of (begun_line [] input)) in
     filter-append is_of_journal (said_from s lines) end
-    ∙ ap (λ l. filter is_of_journal (said_from s lines) ++ l) (begun-journal (standing_from s lines) (begun_line [] input))
+    ∙ ap (λ l. filter is_of_journal (said_from s lines) ++ l) (begun-journal (standing_from s lines) (kept_of (begun_line [] input)))
     ∙ append-nil (filter is_of_journal (said_from s lines))
     ∙ said_from-journal s lines low
 

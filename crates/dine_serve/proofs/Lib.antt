@@ -1,7 +1,4 @@
 pub mod Answering
-pub mod Hearing
-pub mod Opening
-pub mod Served
 pub mod LowPasses
 pub mod Legal
 pub mod Repeating

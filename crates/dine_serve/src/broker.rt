@@ -125,6 +125,13 @@ impl Broker {
         self.has_fault
     }
 
+    /// The limits of its table.
+    pub(crate) fn limits(&self) -> Limits
+        ensures { result ≡ self.now.table.limits }
+    {
+        self.arbiter.limits()
+    }
+
     /// Whether no more lines, or no more joins and finishes, can be counted in 64 bits.
     #[inline(always)]
     pub(crate) fn is_worn_out(&self) -> bool

@@ -12,6 +12,5 @@ pub mod Short
 mod Printing
 mod Outcomes
 mod Listening
-mod WholeInputs
 mod Openings
 pub mod CallerLemmas

@@ -6,18 +6,18 @@ use Rattle.std.specs.Io.KnownBytes.{Appends, Consumes, Keeps}
 use Rattle.dine_streams.specs.Heard.{LineBuffer, Hears}
 use Rattle.dine_streams.specs.Lines.{begun_line, kept_of, seen_lines}
 use Rattle.dine_streams.proofs.Hearing.{HasHeard, heard-next, heard-opening, seen-next}
-use Rattle.dine_streams.specs.Machines.{Rules, standing_after, printed_from, printed_for, standing_from}
+use Rattle.dine_streams.specs.Machines.{Rules, standing_after, printed_from, printed_for, left_by}
 use Rattle.dine_streams.specs.Written.{AppendsLinesOf, AppendsPartOf}
 use Rattle.dine_streams.specs.Runs.{HasPrinted}
 use Rattle.dine_words.specs.Texts.{text_of_lines}
-use Rattle.dine_streams.proofs.Printing.{lines-all, lines-later, of_front, part-later, printed_from-append, printed_later, printed_for-front, standing_from-append}
+use Rattle.dine_streams.proofs.Printing.{lines-all, lines-later, of_front, part-later, printed_from-append, printed_later, printed_for-front, left_by-append}
 
 -- of the input this text was heard, it is answered, and it left the broker and the buffer so
 pub record IsAnswered {S : Type 0} (m : Rules S) (s now : S) (buffer : LineBuffer) (input rest old new : Option (List ℕ)) : Type 0 where
   pub text : List ℕ
   pub consumed : Consumes input rest text
   pub heard : HasHeard buffer text
-  pub left : now ≡ standing_from m s (seen_lines [] text)
+  pub left : now ≡ left_by m s (seen_lines [] text)
   pub written : Appends old new (text_of_lines (printed_from m s (seen_lines [] text)))
 
 -- nothing was heard at first
@@ -59,14 +59,14 @@ module _ {S : Type 0} (m : Rules S) (s now : S) (buffer : LineBuffer) (input res
         ∙ printed_from-append m s (seen_lines [] a.text) (seen_lines [] buffer'.lines)
         ∙ ap (λ t. printed_from m s (seen_lines [] a.text) ++ printed_from m t (seen_lines [] buffer'.lines)) (sym a.left)
 
-    left' : standing_from m s (seen_lines [] text') ≡ standing_from m now (seen_lines [] buffer'.lines)
+    left' : left_by m s (seen_lines [] text') ≡ left_by m now (seen_lines [] buffer'.lines)
     left' =
-        ap (standing_from m s) (seen-next buffer buffer' rest rest' came a.text a.heard hears)
-        ∙ standing_from-append m s (seen_lines [] a.text) (seen_lines [] buffer'.lines)
-        ∙ ap (λ t. standing_from m t (seen_lines [] buffer'.lines)) (sym a.left)
+        ap (left_by m s) (seen-next buffer buffer' rest rest' came a.text a.heard hears)
+        ∙ left_by-append m s (seen_lines [] a.text) (seen_lines [] buffer'.lines)
+        ∙ ap (λ t. left_by m t (seen_lines [] buffer'.lines)) (sym a.left)
 
     -- the lines that were heard now are answered
-    pub answered-next : (now' : S) (new' : Option (List ℕ)) → now' ≡ standing_from m now (seen_lines [] buffer'.lines) → Appends new new' (text_of_lines (printed_from m now (seen_lines [] buffer'.lines))) → IsAnswered m s now' buffer' input rest' old new'
+    pub answered-next : (now' : S) (new' : Option (List ℕ)) → now' ≡ left_by m now (seen_lines [] buffer'.lines) → Appends new new' (text_of_lines (printed_from m now (seen_lines [] buffer'.lines))) → IsAnswered m s now' buffer' input rest' old new'
     answered-next now' new' left wrote = record {
       text = text';
       consumed = consumed';
@@ -95,10 +95,10 @@ module _ {S : Type 0} (m : Rules S) (s now : S) (buffer : LineBuffer) (input res
 
     module _ (block : List ℕ) (shown : block ≡ buffer'.lines) where
       -- the lines that were heard now are answered
-      pub block-next : (now' : S) (new' : Option (List ℕ)) → now' ≡ standing_from m now (seen_lines [] block) → Appends new new' (text_of_lines (printed_from m now (seen_lines [] block))) → IsAnswered m s now' buffer' input rest' old new'
+      pub block-next : (now' : S) (new' : Option (List ℕ)) → now' ≡ left_by m now (seen_lines [] block) → Appends new new' (text_of_lines (printed_from m now (seen_lines [] block))) → IsAnswered m s now' buffer' input rest' old new'
       block-next now' new' left wrote =
           answered-next now' new'
-          (left ∙ ap (λ b. standing_from m now (seen_lines [] b)) shown)
+          (left ∙ ap (λ b. left_by m now (seen_lines [] b)) shown)
           (subst (λ b. Appends new new' (text_of_lines (printed_from m now (seen_lines [] b)))) shown wrote)
 
       -- some whole lines of their answers are written
@@ -125,16 +125,16 @@ module _ {S : Type 0} (m : Rules S) (s now : S) (buffer : LineBuffer) (input res
       end_heard = subst (HasHeard buffer') same_text (heard-next buffer buffer' rest rest' came a.text a.heard hears)
 
       -- what is said of the line that has begun
-      said_of_last : m.prints_last now last ≡ m.prints_last (standing_from m s (seen_lines [] a.text)) (kept_of (begun_line [] a.text))
+      said_of_last : m.prints_last now last ≡ m.prints_last (left_by m s (seen_lines [] a.text)) (kept_of (begun_line [] a.text))
       said_of_last =
           ap (λ t. m.prints_last t last) a.left
-          ∙ ap (m.prints_last (standing_from m s (seen_lines [] a.text))) (told ∙ end_heard)
+          ∙ ap (m.prints_last (left_by m s (seen_lines [] a.text))) (told ∙ end_heard)
 
       -- all answers are written
       pub answered-end : (new' : Option (List ℕ)) → Appends new new' (text_of_lines (m.prints_last now last)) → IfSome input (λ all. Appends old new' (text_of_lines (printed_for m s all)))
       answered-end new' wrote =
           of_all (λ all. Appends old new' (text_of_lines (printed_for m s all)))
-          (subst (Appends old new') (sym (flat_map-append _ (printed_from m s (seen_lines [] a.text)) (m.prints_last (standing_from m s (seen_lines [] a.text)) (kept_of (begun_line [] a.text)))))
+          (subst (Appends old new') (sym (flat_map-append _ (printed_from m s (seen_lines [] a.text)) (m.prints_last (left_by m s (seen_lines [] a.text)) (kept_of (begun_line [] a.text)))))
           (Appends-trans old new new' _ _ a.written (subst (λ lines. Appends new new' (text_of_lines lines)) said_of_last wrote)))
 
       -- it is known where it stands
@@ -143,13 +143,13 @@ module _ {S : Type 0} (m : Rules S) (s now : S) (buffer : LineBuffer) (input res
           of_all (λ all. now' ≡ standing_after m s all)
           (left
           ∙ ap (λ (t : S). m.after_last t last) a.left
-          ∙ ap (m.after_last (standing_from m s (seen_lines [] a.text))) (told ∙ end_heard))
+          ∙ ap (m.after_last (left_by m s (seen_lines [] a.text))) (told ∙ end_heard))
 
       -- a part of the last answer is written
       pub end-in_part : (new' : Option (List ℕ)) → AppendsPartOf new new' (text_of_lines (m.prints_last now last)) → IfSome input (λ all. AppendsPartOf old new' (text_of_lines (printed_for m s all)))
       end-in_part new' wrote =
           let first = printed_from m s (seen_lines [] a.text) in
-          let end = m.prints_last (standing_from m s (seen_lines [] a.text)) (kept_of (begun_line [] a.text)) in
+          let end = m.prints_last (left_by m s (seen_lines [] a.text)) (kept_of (begun_line [] a.text)) in
           of_all (λ all. AppendsPartOf old new' (text_of_lines (printed_for m s all)))
           (subst (λ lines. AppendsPartOf old new' (text_of_lines lines)) (append-nil (first ++ end))
           (part-later old new new' first end [] a.written (subst (λ lines. AppendsPartOf new new' (text_of_lines lines)) said_of_last wrote)))
@@ -159,4 +159,4 @@ module _ {S : Type 0} (m : Rules S) (s now : S) (buffer : LineBuffer) (input res
       end-in_lines new' kept =
           let first = printed_from m s (seen_lines [] a.text) in
           of_all (λ all. AppendsLinesOf old new' (printed_for m s all))
-          (lines-all old new' first (m.prints_last (standing_from m s (seen_lines [] a.text)) (kept_of (begun_line [] a.text))) (Appends-kept old new new' _ a.written kept))
+          (lines-all old new' first (m.prints_last (left_by m s (seen_lines [] a.text)) (kept_of (begun_line [] a.text))) (Appends-kept old new new' _ a.written kept))

@@ -1,14 +1,13 @@
 -- How a run of a command ends.
-use Rattle.std.proofs.Common.{◌++◌, ◌≡◌, ◌≢◌, ℕ, Bool, true, false, List, Option, IfSome, IfOk, OnOk, Result, Ok, Err, ap, sym, ◌∙◌}
+use Rattle.std.proofs.Common.{◌++◌, ◌≡◌, ℕ, Bool, true, false, List, Option, IfSome, IfOk, OnOk, Result, Ok, Err, sym, ◌∙◌}
 use Rattle.std.specs.Result.{IsErr}
 use Rattle.dine_words.specs.Texts.{text_of_lines}
 use Rattle.dine_streams.specs.declared.ended.CliFault.{CliFault}
 use Rattle.dine_streams.specs.declared.ended.CliFault.TheVariants.{Memory, Read, Write}
 use Rattle.dine_streams.specs.Written.{AppendsLinesOf, AppendsPartOf}
-use Rattle.dine_streams.specs.declared.writing.Writing.{Writing}
 use Rattle.dine_streams.proofs.Printing.{of_known}
 use Rattle.dine_streams.specs.Machines.{Rules, printed_for}
-use Rattle.dine_streams.specs.Runs.{IsReadFor, OwedAtRead, Ran, ReadFailed, Writes}
+use Rattle.dine_streams.specs.Runs.{HasPrinted, Ran, Writes}
 
 -- ---- what a result tells
 
@@ -38,12 +37,12 @@ two_faults {fault = fault} {told = told} same differ = differ (let is : fault �
 -- ---- runs
 
 -- a run that gave up: what it has written by then
-pub ran-in_part : {S A : Type 0} (r : Result A CliFault) (Ends : A → List ℕ → Type 0) (writing : Writing) (m : Rules S) (first : List (List ℕ)) (s : S) (input rest old new : Option (List ℕ)) (ro rn wo wn : Bool) → IsErr r → (r ≡ Err Read → OwedAtRead writing m first s input rest old new × ReadFailed writing rn input) → (r ≡ Err Memory → IfSome input (λ bytes. AppendsLinesOf old new (first ++ printed_for m s bytes))) → (r ≡ Err Write → IfSome input (λ bytes. AppendsPartOf old new (text_of_lines (first ++ printed_for m s bytes)))) → (r ≡ Err Write → wn ≡ true) → (r ≢ Err Read → IsReadFor writing input rest ro rn) → Ran r Ends writing m first s input rest old new ro rn wo wn
-ran-in_part (Ok x) Ends writing m first s input rest old new ro rn wo wn gave_up read memory write mark whole = absurd (let two : false ≡ true = gave_up in cc)
-ran-in_part (Err fault) Ends writing m first s input rest old new ro rn wo wn gave_up read memory write mark whole = record {
+pub ran-in_part : {S A : Type 0} (r : Result A CliFault) (Ends : A → List ℕ → Type 0) (m : Rules S) (first : List (List ℕ)) (s : S) (input rest old new : Option (List ℕ)) (ro rn wo wn : Bool) → IsErr r → (r ≡ Err Read → HasPrinted m first s input rest old new × (rn ≡ true)) → (r ≡ Err Memory → IfSome input (λ bytes. AppendsLinesOf old new (first ++ printed_for m s bytes))) → (r ≡ Err Write → IfSome input (λ bytes. AppendsPartOf old new (text_of_lines (first ++ printed_for m s bytes)))) → (r ≡ Err Write → wn ≡ true) → Ran r Ends m first s input rest old new ro rn wo wn
+ran-in_part (Ok x) Ends m first s input rest old new ro rn wo wn gave_up read memory write mark = absurd (let two : false ≡ true = gave_up in cc)
+ran-in_part (Err fault) Ends m first s input rest old new ro rn wo wn gave_up read memory write mark = record {
   output = tt;
   ended = tt;
-  read = λ failed. (read failed).0;
+  at_each_read = λ failed. (read failed).0;
   memory = memory;
   write = write;
   marks = record {
@@ -52,25 +51,23 @@ ran-in_part (Err fault) Ends writing m first s input rest old new ro rn wo wn ga
     read_unmarked = tt;
     write_unmarked = tt;
   };
-  whole = whole;
 }
 
 -- a run that hands on the fault of another is as that was, whatever its value would tell
-pub ran-gave_up : {S A B : Type 0} (r : Result A CliFault) (r' : Result B CliFault) (Ends : A → List ℕ → Type 0) (Ends' : B → List ℕ → Type 0) (writing : Writing) (m : Rules S) (first : List (List ℕ)) (s : S) (input rest old new : Option (List ℕ)) (ro rn wo wn : Bool) → IsErr r' → (r' ≡ Err Read → r ≡ Err Read) → (r' ≡ Err Memory → r ≡ Err Memory) → (r' ≡ Err Write → r ≡ Err Write) → (r ≡ Err Read → r' ≡ Err Read) → Ran r Ends writing m first s input rest old new ro rn wo wn → Ran r' Ends' writing m first s input rest old new ro rn wo wn
-ran-gave_up r r' Ends Ends' writing m first s input rest old new ro rn wo wn gave_up read memory write read_back ran =
-    ran-in_part r' Ends' writing m first s input rest old new ro rn wo wn gave_up
-    (λ failed. (ran.read (read failed), ran.marks.read_mark (read failed)))
+pub ran-gave_up : {S A B : Type 0} (r : Result A CliFault) (r' : Result B CliFault) (Ends : A → List ℕ → Type 0) (Ends' : B → List ℕ → Type 0) (m : Rules S) (first : List (List ℕ)) (s : S) (input rest old new : Option (List ℕ)) (ro rn wo wn : Bool) → IsErr r' → (r' ≡ Err Read → r ≡ Err Read) → (r' ≡ Err Memory → r ≡ Err Memory) → (r' ≡ Err Write → r ≡ Err Write) → Ran r Ends m first s input rest old new ro rn wo wn → Ran r' Ends' m first s input rest old new ro rn wo wn
+ran-gave_up r r' Ends Ends' m first s input rest old new ro rn wo wn gave_up read memory write ran =
+    ran-in_part r' Ends' m first s input rest old new ro rn wo wn gave_up
+    (λ failed. (ran.at_each_read (read failed), ran.marks.read_mark (read failed)))
     (λ failed. ran.memory (memory failed))
     (λ failed. ran.write (write failed))
     (λ failed. ran.marks.write_mark (write failed))
-    (λ other. ran.whole (λ failed. other (read_back failed)))
 
 -- a run that came to its end, with another value of which as much is known
-pub ran-well : {S A B : Type 0} (x : A) (y : B) (Ends : A → List ℕ → Type 0) (Ends' : B → List ℕ → Type 0) (writing : Writing) (m : Rules S) (first : List (List ℕ)) (s : S) (input rest old new : Option (List ℕ)) (ro rn wo wn : Bool) → ((bytes : List ℕ) → Ends x bytes → Ends' y bytes) → Ran (Ok x) Ends writing m first s input rest old new ro rn wo wn → Ran (Ok y) Ends' writing m first s input rest old new ro rn wo wn
-ran-well x y Ends Ends' writing m first s input rest old new ro rn wo wn tells ran = record {
+pub ran-well : {S A B : Type 0} (x : A) (y : B) (Ends : A → List ℕ → Type 0) (Ends' : B → List ℕ → Type 0) (m : Rules S) (first : List (List ℕ)) (s : S) (input rest old new : Option (List ℕ)) (ro rn wo wn : Bool) → ((bytes : List ℕ) → Ends x bytes → Ends' y bytes) → Ran (Ok x) Ends m first s input rest old new ro rn wo wn → Ran (Ok y) Ends' m first s input rest old new ro rn wo wn
+ran-well x y Ends Ends' m first s input rest old new ro rn wo wn tells ran = record {
   output = ran.output;
   ended = of_known input (Ends x) (Ends' y) tells ran.ended;
-  read = λ failed. absurd (no_fault y Read failed);
+  at_each_read = λ failed. absurd (no_fault y Read failed);
   memory = λ failed. absurd (no_fault y Memory failed);
   write = λ failed. absurd (no_fault y Write failed);
   marks = record {
@@ -79,7 +76,22 @@ ran-well x y Ends Ends' writing m first s input rest old new ro rn wo wn tells r
     read_unmarked = ran.marks.read_unmarked;
     write_unmarked = ran.marks.write_unmarked;
   };
-  whole = λ other. ran.whole (no_fault x Read);
+}
+
+-- what is known of the value where a run came to its end
+ends-known : {A : Type 0} (r : Result A CliFault) (Ends Ends' : A → List ℕ → Type 0) (input : Option (List ℕ)) → ((x : A) (bytes : List ℕ) → Ends x bytes → Ends' x bytes) → IfOk r (λ x. IfSome input (λ bytes. Ends x bytes)) → IfOk r (λ x. IfSome input (λ bytes. Ends' x bytes))
+ends-known (Ok x) Ends Ends' input tells ended = of_known input (Ends x) (Ends' x) (tells x) ended
+ends-known (Err fault) Ends Ends' input tells ended = tt
+
+-- a run of whose value more is known
+pub ran-ends : {S A : Type 0} (r : Result A CliFault) (Ends Ends' : A → List ℕ → Type 0) (m : Rules S) (first : List (List ℕ)) (s : S) (input rest old new : Option (List ℕ)) (ro rn wo wn : Bool) → ((x : A) (bytes : List ℕ) → Ends x bytes → Ends' x bytes) → Ran r Ends m first s input rest old new ro rn wo wn → Ran r Ends' m first s input rest old new ro rn wo wn
+ran-ends r Ends Ends' m first s input rest old new ro rn wo wn tells ran = record {
+  output = ran.output;
+  ended = ends-known r Ends Ends' input tells ran.ended;
+  at_each_read = ran.at_each_read;
+  memory = ran.memory;
+  write = ran.write;
+  marks = ran.marks;
 }
 
 -- ---- steps
@@ -108,20 +120,6 @@ writes-in_part (Err fault) bytes Left old new mark_old mark_new is part mark = r
   writes_only = record {
     no_read = λ failed. two_faults (sym is ∙ failed) (λ same. absurd cc);
     mark = λ failed. mark;
-    unmarked = tt;
-  };
-}
-
--- a step that gave up
-pub writes-gave_up : {A : Type 0} (r : Result A CliFault) (bytes : List ℕ) (Left : Type 0) (old new : Option (List ℕ)) (mark_old mark_new : Bool) → IsErr r → (r ≡ Err Read → ⊥) → (r ≡ Err Memory → Left) → (r ≡ Err Write → AppendsPartOf old new bytes) → (r ≡ Err Write → mark_new ≡ true) → Writes r bytes Left old new mark_old mark_new
-writes-gave_up (Ok x) bytes Left old new mark_old mark_new gave_up read memory write mark = absurd (let two : false ≡ true = gave_up in cc)
-writes-gave_up (Err fault) bytes Left old new mark_old mark_new gave_up read memory write mark = record {
-  written = tt;
-  memory = memory;
-  write = write;
-  writes_only = record {
-    no_read = read;
-    mark = mark;
     unmarked = tt;
   };
 }

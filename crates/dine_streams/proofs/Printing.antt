@@ -9,7 +9,7 @@ use Rattle.dine_streams.specs.Lines.{begun_line, kept_of, seen_lines}
 use Rattle.dine_streams.proofs.Hearing.{seen-pieces}
 use Rattle.dine_streams.specs.Written.{AppendsLinesOf, AppendsPartOf}
 use Rattle.dine_words.specs.Texts.{text_of_lines}
-use Rattle.dine_streams.specs.Machines.{Rules, printed_from, printed_for, standing_from}
+use Rattle.dine_streams.specs.Machines.{Rules, printed_from, printed_for, left_by}
 
 -- ---- the first of the lines
 
@@ -19,36 +19,36 @@ module _ {S : Type 0} (m : Rules S) (s s' : S) (line : Option (List ℕ)) (now l
   printed_from-first = ap (printed_from m s) is ∙ ap (λ t. m.prints s line ++ printed_from m t lines) (sym after)
 
   -- and what it leaves comes first
-  pub standing_from-first : standing_from m s now ≡ standing_from m s' lines
-  standing_from-first = ap (standing_from m s) is ∙ ap (λ t. standing_from m t lines) (sym after)
+  pub left_by-first : left_by m s now ≡ left_by m s' lines
+  left_by-first = ap (left_by m s) is ∙ ap (λ t. left_by m t lines) (sym after)
 
 -- ---- several pieces
 
 -- what is said to two pieces
-pub printed_from-append : {S : Type 0} (m : Rules S) (s : S) (xs ys : List (Option (List ℕ))) → printed_from m s (xs ++ ys) ≡ printed_from m s xs ++ printed_from m (standing_from m s xs) ys
+pub printed_from-append : {S : Type 0} (m : Rules S) (s : S) (xs ys : List (Option (List ℕ))) → printed_from m s (xs ++ ys) ≡ printed_from m s xs ++ printed_from m (left_by m s xs) ys
 printed_from-append m s [] ys = refl
 printed_from-append m s (x ∷ xs) ys =
     let next = m.after s x in
     ap (λ more. m.prints s x ++ more) (printed_from-append m next xs ys)
-    ∙ sym (append_assoc (m.prints s x) (printed_from m next xs) (printed_from m (standing_from m next xs) ys))
+    ∙ sym (append_assoc (m.prints s x) (printed_from m next xs) (printed_from m (left_by m next xs) ys))
 
 -- where two pieces lead
-pub standing_from-append : {S : Type 0} (m : Rules S) (s : S) (xs ys : List (Option (List ℕ))) → standing_from m s (xs ++ ys) ≡ standing_from m (standing_from m s xs) ys
-standing_from-append m s [] ys = refl
-standing_from-append m s (x ∷ xs) ys = standing_from-append m (m.after s x) xs ys
+pub left_by-append : {S : Type 0} (m : Rules S) (s : S) (xs ys : List (Option (List ℕ))) → left_by m s (xs ++ ys) ≡ left_by m (left_by m s xs) ys
+left_by-append m s [] ys = refl
+left_by-append m s (x ∷ xs) ys = left_by-append m (m.after s x) xs ys
 
 -- what is said to the rest of an input of which this was heard
 abbrev pub printed_later : {S : Type 0} → Rules S → S → List ℕ → List ℕ → List (List ℕ)
 printed_later m s heard rest =
-    printed_from m (standing_from m s (seen_lines [] heard)) (seen_lines (begun_line [] heard) rest)
-    ++ m.prints_last (standing_from m s (seen_lines [] (heard ++ rest))) (kept_of (begun_line [] (heard ++ rest)))
+    printed_from m (left_by m s (seen_lines [] heard)) (seen_lines (begun_line [] heard) rest)
+    ++ m.prints_last (left_by m s (seen_lines [] (heard ++ rest))) (kept_of (begun_line [] (heard ++ rest)))
 
 -- what is said to an input begins with what is said to its first bytes
 pub printed_for-front : {S : Type 0} (m : Rules S) (s : S) (heard rest : List ℕ) → printed_for m s (heard ++ rest) ≡ printed_from m s (seen_lines [] heard) ++ printed_later m s heard rest
 printed_for-front m s heard rest =
-    let end = m.prints_last (standing_from m s (seen_lines [] (heard ++ rest))) (kept_of (begun_line [] (heard ++ rest))) in
+    let end = m.prints_last (left_by m s (seen_lines [] (heard ++ rest))) (kept_of (begun_line [] (heard ++ rest))) in
     let first = printed_from m s (seen_lines [] heard) in
-    let next = printed_from m (standing_from m s (seen_lines [] heard)) (seen_lines (begun_line [] heard) rest) in
+    let next = printed_from m (left_by m s (seen_lines [] heard)) (seen_lines (begun_line [] heard) rest) in
     ap (λ lines. printed_from m s lines ++ end) (seen-pieces [] heard rest)
     ∙ ap (λ said. said ++ end) (printed_from-append m s (seen_lines [] heard) (seen_lines (begun_line [] heard) rest))
     ∙ append_assoc first next end

@@ -18,18 +18,18 @@ printed_from m s [] = []
 printed_from m s (line ∷ lines) = m.prints s line ++ printed_from m (m.after s line) lines
 
 -- where they leave it
-abbrev pub standing_from : {S : Type 0} → Rules S → S → List (Option (List ℕ)) → S
-standing_from m s [] = s
-standing_from m s (line ∷ lines) = standing_from m (m.after s line) lines
+abbrev pub left_by : {S : Type 0} → Rules S → S → List (Option (List ℕ)) → S
+left_by m s [] = s
+left_by m s (line ∷ lines) = left_by m (m.after s line) lines
 
 -- what it prints for an input
 abbrev pub printed_for : {S : Type 0} → Rules S → S → List ℕ → List (List ℕ)
 printed_for m s input =
-    printed_from m s (seen_lines [] input) ++ m.prints_last (standing_from m s (seen_lines [] input)) (kept_of (begun_line [] input))
+    printed_from m s (seen_lines [] input) ++ m.prints_last (left_by m s (seen_lines [] input)) (kept_of (begun_line [] input))
 
 -- where that leaves it
 abbrev pub standing_after : {S : Type 0} → Rules S → S → List ℕ → S
-standing_after m s input = m.after_last (standing_from m s (seen_lines [] input)) (kept_of (begun_line [] input))
+standing_after m s input = m.after_last (left_by m s (seen_lines [] input)) (kept_of (begun_line [] input))
 
 -- the first line of a text was taken, what is printed for it is appended, and the rest comes after it
 pub record TakesFirst {S : Type 0} (m : Rules S) (s s' : S) (text rest before after : List ℕ) : Type 0 where

@@ -1,58 +1,35 @@
 //! A command that is run: what it prints for the lines of a reader is written to a writer.
 
-ghost use Rattle.std.specs.Prelude.{◌≡◌, ◌≤◌, [], true, IfSome, OnErr, OnOk, drop, length, take};
+ghost use Rattle.std.specs.Prelude.{◌≡◌, [], true, OnErr, OnOk};
 ghost use Rattle.std.specs.Io.KnownBytes.{Appends, Keeps};
 ghost use Rattle.dine_words.specs.Texts.{text_of_lines};
-ghost use Rattle.dine_streams.specs.Lines.{begun_line, ended_lines, kept_of, seen_lines};
-ghost use Rattle.dine_streams.specs.Machines.{printed_for, printed_from, standing_after, standing_from};
+ghost use Rattle.dine_streams.specs.Lines.{begun_line, seen_lines};
+ghost use Rattle.dine_streams.specs.Machines.{left_by, printed_from, standing_after};
 ghost use Rattle.dine_streams.specs.Runs.{Ran, Writes};
 ghost use Rattle.dine_streams.specs.Written.{AppendsLinesOf, AppendsPartOf};
 
-use crate::buffer::{LineBuffer, whole_len};
+use crate::buffer::LineBuffer;
 use crate::ended::CliFault;
 use crate::machine::Machine;
-use crate::whole::{read_whole, write_if_enough, write_whole};
-use crate::writing::Writing;
-use dine_words::{Failed, MAX_LINE, Sink, Source};
+use crate::whole::{write_if_enough, write_whole};
+use dine_words::{Failed, Sink, Source};
 use std::alloc::Global;
 
-/// Runs a command over an input: writes what it prints first, and what it prints for each line that comes, until no more
-/// comes.
+/// Runs a command over what comes: writes what it prints first, and what it prints for each line as it comes, until no more
+/// comes. Whenever it listens, all that is printed for the whole lines heard so far is written.
 ///
-/// It gives up with `Read` where a read fails, or where the input is longer than one may be that is read before anything is
-/// written: nothing is written then, and else all that is owed to the whole lines heard so far. It gives up with `Write` where
-/// a write fails, and has written a part of the output; and with `Memory` where memory runs out, and has written some whole
-/// lines of the output, from the first on.
+/// It gives up with `Read` where a read fails; with `Write` where a write fails, and has written a part of the output; and
+/// with `Memory` where memory runs out, and has written some whole lines of the output, from the first on. However much
+/// comes, it takes no more memory than the command does.
 pub fn run<M: Machine, R: Source, W: Sink>(
     alloc: Global,
-    writing: Writing,
     machine: &mut M,
     reader: &mut R,
     writer: &mut W,
 ) -> Result<(), CliFault>
     ensures { Ran result
         (λ done input. machine.new ≡ standing_after M.rules machine.old input)
-        writing M.rules (M.rules.prints_first machine.old) machine.old
-        (R.remaining reader.old) (R.remaining reader.new)
-        (W.contents writer.old) (W.contents writer.new)
-        (R.mark reader.old) (R.mark reader.new) (W.mark writer.old) (W.mark writer.new) }
-{
-    match writing {
-        Writing::AsItComes => run_as_it_comes(alloc, machine, reader, writer),
-        Writing::OnceRead => run_once_read(alloc, machine, reader, writer),
-    }
-}
-
-// Runs a command over what comes, as it comes.
-fn run_as_it_comes<M: Machine, R: Source, W: Sink>(
-    alloc: Global,
-    machine: &mut M,
-    reader: &mut R,
-    writer: &mut W,
-) -> Result<(), CliFault>
-    ensures { Ran result
-        (λ done input. machine.new ≡ standing_after M.rules machine.old input)
-        Writing.AsItComes M.rules (M.rules.prints_first machine.old) machine.old
+        M.rules (M.rules.prints_first machine.old) machine.old
         (R.remaining reader.old) (R.remaining reader.new)
         (W.contents writer.old) (W.contents writer.new)
         (R.mark reader.old) (R.mark reader.new) (W.mark writer.old) (W.mark writer.new) }
@@ -74,10 +51,7 @@ fn open<M: Machine, W: Sink>(alloc: Global, machine: &M, writer: &mut W) -> Resu
     Ok(())
 }
 
-/// Runs a command that has printed its first lines already: writes what it prints for each line as it comes, until no more
-/// comes. Whenever it listens, all that is printed for the whole lines heard so far is written.
-///
-/// It gives up as [`run`] does.
+/// As [`run`], of a command whose first lines are not to be printed.
 pub fn go_on<M: Machine, R: Source, W: Sink>(
     alloc: Global,
     machine: &mut M,
@@ -86,7 +60,7 @@ pub fn go_on<M: Machine, R: Source, W: Sink>(
 ) -> Result<(), CliFault>
     ensures { Ran result
         (λ done input. machine.new ≡ standing_after M.rules machine.old input)
-        Writing.AsItComes M.rules [] machine.old
+        M.rules [] machine.old
         (R.remaining reader.old) (R.remaining reader.new)
         (W.contents writer.old) (W.contents writer.new)
         (R.mark reader.old) (R.mark reader.new) (W.mark writer.old) (W.mark writer.new) }
@@ -106,57 +80,6 @@ pub fn go_on<M: Machine, R: Source, W: Sink>(
     Err(CliFault::Memory)
 }
 
-// Runs a command over an input that is read to its end first.
-fn run_once_read<M: Machine, R: Source, W: Sink>(
-    alloc: Global,
-    machine: &mut M,
-    reader: &mut R,
-    writer: &mut W,
-) -> Result<(), CliFault>
-    ensures { Ran result
-        (λ done input. machine.new ≡ standing_after M.rules machine.old input)
-        Writing.OnceRead M.rules (M.rules.prints_first machine.old) machine.old
-        (R.remaining reader.old) (R.remaining reader.new)
-        (W.contents writer.old) (W.contents writer.new)
-        (R.mark reader.old) (R.mark reader.new) (W.mark writer.old) (W.mark writer.new) }
-{
-    let text = read_whole(alloc, reader)?;
-    open(alloc, machine, writer)?;
-    take_whole(machine, &text, &mut Vec::new(alloc), writer)
-}
-
-// Takes a whole input, and writes what is printed for it.
-fn take_whole<M: Machine, W: Sink>(
-    machine: &mut M,
-    text: &[u8],
-    pending: &mut Vec<u8>,
-    writer: &mut W,
-) -> Result<(), CliFault>
-    requires pending { pending.old.items ≡ [] }
-    ensures after { OnOk result (machine.new ≡ standing_after M.rules machine.old text.now) }
-    ensures writes { Writes result
-        (text_of_lines (printed_for M.rules machine.old text.now))
-        (AppendsLinesOf (W.contents writer.old) (W.contents writer.new)
-        (printed_for M.rules machine.old text.now))
-        (W.contents writer.old) (W.contents writer.new)
-        (W.mark writer.old) (W.mark writer.new) }
-{
-    let whole = whole_len(text);
-    take_lines(machine, &text[..whole], pending, writer)?;
-    take_last(machine, kept(&text[whole..]), pending, writer)
-}
-
-// What is kept of a line that has begun.
-fn kept(begun: &[u8]) -> &[u8]
-    ensures { result.now ≡ kept_of begun.now }
-{
-    if begun.len() > MAX_LINE {
-        &begun[..MAX_LINE + 1]
-    } else {
-        begun
-    }
-}
-
 // Takes the lines of a text, of which each has its line feed, and writes what is printed for them.
 fn take_lines<M: Machine, W: Sink>(
     machine: &mut M,
@@ -167,7 +90,7 @@ fn take_lines<M: Machine, W: Sink>(
     requires pending { pending.old.items ≡ [] }
     requires whole { begun_line [] text.now ≡ [] }
     ensures after { OnOk result
-        (machine.new ≡ standing_from M.rules machine.old (seen_lines [] text.now)) }
+        (machine.new ≡ left_by M.rules machine.old (seen_lines [] text.now)) }
     ensures none_pending { OnOk result (pending.new.items ≡ []) }
     ensures writes { Writes result
         (text_of_lines (printed_from M.rules machine.old (seen_lines [] text.now)))

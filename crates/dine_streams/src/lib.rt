@@ -11,7 +11,6 @@ mod input;
 mod machine;
 mod whole;
 mod without_memory;
-mod writing;
 
 pub use buffer::LineBuffer;
 pub use driver::{go_on, run};
@@ -21,4 +20,3 @@ pub use input::{CHUNK, InputBuffer, InputFault, MAX_INPUT};
 pub use machine::Machine;
 pub use whole::{LARGE_WRITE, read_whole, write_if_enough, write_whole};
 pub use without_memory::{fault_without_memory, read_out};
-pub use writing::Writing;

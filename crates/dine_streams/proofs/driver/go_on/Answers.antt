@@ -27,7 +27,7 @@ returns-then-not-has_come g c =
     record {
       output = on_ok c.take_last.result (answered-end _ _ _ _ _ _ _ _ c.reads.invariant.answered _ _ _ c.in-Ok.ensures.heard c.if-not-has_come.true _ c.begun.ensures.begun _) wrote.written;
       ended = of_value c.take_last.result (standing-end _ _ _ _ _ _ _ _ c.reads.invariant.answered _ _ _ c.in-Ok.ensures.heard c.if-not-has_come.true _ c.begun.ensures.begun _) c.take_last.ensures.after;
-      read = λ failed. absurd (wrote.writes_only.no_read failed);
+      at_each_read = λ failed. absurd (wrote.writes_only.no_read failed);
       memory = λ failed. end-in_lines _ _ _ _ _ _ _ _ c.reads.invariant.answered _ _ _ c.in-Ok.ensures.heard c.if-not-has_come.true _ c.begun.ensures.begun _ (wrote.memory failed);
       write = λ failed. end-in_part _ _ _ _ _ _ _ _ c.reads.invariant.answered _ _ _ c.in-Ok.ensures.heard c.if-not-has_come.true _ c.begun.ensures.begun _ (wrote.write failed);
       marks = record {
@@ -36,7 +36,6 @@ returns-then-not-has_come g c =
         read_unmarked = in_any_case c.take_last.result (c.in-Ok.ensures.unmarked ∙ c.reads.invariant.read_unmarked);
         write_unmarked = on_ok c.take_last.result (λ unmarked. unmarked ∙ c.reads.invariant.write_unmarked) wrote.writes_only.unmarked;
       };
-      whole = λ other. tt;
     }
 
 -- memory is wanting, or a write fails
@@ -44,19 +43,17 @@ pub returns-in_err-take_lines : goal.returns-in_err-take_lines
 returns-in_err-take_lines g c =
     let wrote = c.take_lines.ensures.writes in
     let r = c.from_residual-in_err-take_lines.result in
-    ran-in_part r _ _ _ _ _ _ _ _ _ _ _ _ _ c.from_residual-in_err-take_lines.ensures.0
+    ran-in_part r _ _ _ _ _ _ _ _ _ _ _ _ c.from_residual-in_err-take_lines.ensures.0
     (λ failed. let same : c.take_lines.result ≡ Err Read = search rules in absurd (wrote.writes_only.no_read same))
     (λ failed. let same : c.take_lines.result ≡ Err Memory = search rules in block-in_lines _ _ _ _ _ _ _ _ c.reads.invariant.answered _ _ _ c.in-Ok.ensures.heard _ c.lines.ensures.lines _ (wrote.memory same))
     (λ failed. let same : c.take_lines.result ≡ Err Write = search rules in block-in_part _ _ _ _ _ _ _ _ c.reads.invariant.answered _ _ _ c.in-Ok.ensures.heard _ c.lines.ensures.lines _ (wrote.write same))
     (λ failed. let same : c.take_lines.result ≡ Err Write = search rules in wrote.writes_only.mark same)
-    (λ other. tt)
 
 -- more reads than are counted
 pub returns : goal.returns
 returns g c =
-    ran-in_part (Err Memory) _ _ _ _ _ _ _ _ _ _ _ _ _ refl
+    ran-in_part (Err Memory) _ _ _ _ _ _ _ _ _ _ _ _ refl
     (λ failed. absurd (two_faults failed (λ same. absurd cc)))
     (λ failed. answered-so_far _ _ _ _ _ _ _ _ c.reads.invariant.answered)
     (λ failed. absurd (two_faults failed (λ same. absurd cc)))
     (λ failed. absurd (two_faults failed (λ same. absurd cc)))
-    (λ other. tt)

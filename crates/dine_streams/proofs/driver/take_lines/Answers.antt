@@ -2,7 +2,7 @@ use Rattle.std.proofs.Common.{◌≡◌, Err, [], ◌∙◌, refl, rules, sym}
 use Rattle.dine_streams.specs.Lines.{seen_lines}
 use Rattle.dine_streams.specs.declared.ended.CliFault.TheVariants.{Memory, Write}
 use Rattle.dine_streams.specs.Machines.{printed_from}
-use Rattle.dine_streams.proofs.Printing.{printed_from-first, standing_from-first}
+use Rattle.dine_streams.proofs.Printing.{printed_from-first, left_by-first}
 use Rattle.dine_streams.proofs.Progress.{begun, gathered, moved, partly, whole}
 use Rattle.dine_streams.proofs.Outcomes.{writes-in_lines, writes-in_part}
 use Rattle.dine_streams.proofs.driver.take_lines.Goals as goal
@@ -25,7 +25,7 @@ loop-rest-preserved g c =
     let lines = seen_lines [] c.in_ok-rest.rest.now in
     record {
       whole = taken.begun ∙ c.loop-rest.invariant.whole;
-      after = sym (standing_from-first m s s' taken.line now lines taken.seen taken.leaves) ∙ c.loop-rest.invariant.after;
+      after = sym (left_by-first m s s' taken.line now lines taken.seen taken.leaves) ∙ c.loop-rest.invariant.after;
       progress = moved _ _ c.in_ok-write_if_enough.ensures.ok (gathered (m.prints s taken.line) (printed_from m s' lines) _ (printed_from-first m s s' taken.line now lines taken.seen taken.leaves) taken.printed c.loop-rest.invariant.progress);
       unmarked = c.in_ok-write_if_enough.ensures.unmarked ∙ c.loop-rest.invariant.unmarked;
     }

@@ -1,6 +1,6 @@
 use Rattle.std.proofs.Common.{◌≡◌, [], length}
 use Rattle.dine_streams.specs.Lines.{begun_line, seen_lines}
-use Rattle.dine_streams.specs.Machines.{printed_from, standing_from}
+use Rattle.dine_streams.specs.Machines.{printed_from, left_by}
 use Rattle.dine_streams.proofs.Progress.{Progress}
 use Rattle.dine_streams.proofs.driver.take_lines.Given as goal
 
@@ -8,7 +8,7 @@ use Rattle.dine_streams.proofs.driver.take_lines.Given as goal
 abbrev pub invariant-loop-rest : goal.invariant-loop-rest
 invariant-loop-rest g l = record {
   whole : begun_line [] l.rest ≡ [];
-  after : standing_from g.M.Machine.rules l.machine (seen_lines [] l.rest) ≡ standing_from g.M.Machine.rules l.initial.machine (seen_lines [] l.fn.text);
+  after : left_by g.M.Machine.rules l.machine (seen_lines [] l.rest) ≡ left_by g.M.Machine.rules l.initial.machine (seen_lines [] l.fn.text);
   progress : Progress (printed_from g.M.Machine.rules l.initial.machine (seen_lines [] l.fn.text)) (g.W.Sink.contents l.initial.writer) (g.W.Sink.contents l.writer) l.pending.items (printed_from g.M.Machine.rules l.machine (seen_lines [] l.rest));
   unmarked : g.W.Sink.mark l.writer ≡ g.W.Sink.mark l.initial.writer;
 }
