@@ -1,5 +1,5 @@
 -- Each call that was made where memory was wanting has its line.
-use Rattle.std.proofs.Common.{◌≡◌, ℕ, Bool, true, false, if◌then◌else◌, List, [], ◌∷◌, ◌++◌, Option, Some, None, Result, Ok, Err, inl, inr, refl, sym, ap, ◌∙◌, subst, append-nil}
+use Rattle.std.proofs.Common.{◌≡◌, ℕ, Bool, true, false, if◌then◌else◌, List, [], ◌∷◌, ◌++◌, Option, Some, None, Result, Ok, Err, inl, inr, refl, sym, ap, ◌∙◌, subst, append-nil, append_assoc}
 use Rattle.std.proofs.lemmas.Bool.{cases_Bool}
 use mathlib.Core.List.{IsPrefix}
 use Rattle.dine_words.specs.declared.call.Call.{Call}
@@ -103,3 +103,10 @@ reading_lines s s' (Ok (Some (Ask question))) before after h = no_call s.table s
 reading_lines s s' (Ok (Some (Order pass deed))) before after h = deed_lines s s' pass deed before after h
 reading_lines s s' (Ok (Some (Numbered pass number deed))) before after h = coming_lines (coming_of s.receipts pass number) s s' pass deed before after h
 reading_lines s s' (Err found) before after h = no_call s.table s'.table [] before after (ap (λ (b : Broker). b.table) h.0) h.1
+
+-- so what stood before still stands
+pub reading_begins : (s s' : Broker) (reading : Result (Option Request) LineFault) (before after : List ℕ) → StopsAtReading s s' reading before after → IsPrefix before after
+reading_begins s s' reading before after h =
+    let said = reading_lines s s' reading before after h in
+    let made : List ℕ = text_of_lines (map entry_text said.made) in
+    (made ++ said.lines.0, sym (append_assoc before made said.lines.0) ∙ said.lines.1)

@@ -24,8 +24,10 @@ use Rattle.dine_serve.specs.declared.request.Request.{Request}
 use Rattle.dine_serve.specs.declared.request.Request.TheVariants.{Numbered, Order}
 use Rattle.dine_serve.specs.Partly.{StopsAtReading}
 use Rattle.dine_serve.specs.Requests.{deed_of, numbered_by, numbered_request, order_at, pass_at, reading_of, request_by, request_of, spaced_at}
-use Rattle.dine_serve.specs.Serving.{Broker, after_reading, counted, said_to}
-use Rattle.dine_serve.specs.UsualForms.{AnswersFirst, HasFirst, IsAbout, StopsAtFirst, TakesFirst}
+use Rattle.dine_serve.specs.Serving.{Broker, after_reading, counted, said_to, serves}
+use Rattle.dine_streams.specs.Machines.{HasLines, Takes}
+use Rattle.dine_streams.proofs.CallerLemmas.{takes-line}
+use Rattle.dine_serve.specs.UsualForms.{IsAbout, StopsAtFirst, TakesFirst}
 
 -- ---- a line that begins with a number
 
@@ -86,7 +88,8 @@ numbered-is numbered pass number deed body have low wants =
 -- the first line of a text, and what it asks for
 pub record Asks (numbered : Bool) (request : Request) (text rest : List ℕ) : Type 0 where
   pub line : List ℕ
-  pub first : HasFirst text (Some line) rest
+  pub first : HasLines text (Some line ∷ []) rest
+  pub shorter : length rest < length text
   pub reading : reading_of numbered (Some line) ≡ Ok (Some request)
 
 -- a pass, and what it wants done
@@ -127,10 +130,12 @@ module _ (numbered : Bool) (pass : ℕ) (request : Request) (body text rest : Li
   asks = record {
     line = whole;
     first = record {
+      front = whole ++ 10 ∷ [];
+      cut = cut ∙ sym (append_assoc whole (10 ∷ []) rest);
       seen = ap (map seen_of) ended ∙ ap (λ l. l ∷ seen_lines [] rest) is_seen;
       begun = sym (ap (begun_line []) cut ∙ begun-pieces [] whole (10 ∷ rest));
-      shorter = (let more = ap length cut in omega (arith, more, length-append whole (10 ∷ rest)));
     };
+    shorter = (let more = ap length cut in omega (arith, more, length-append whole (10 ∷ rest)));
     reading = read;
   }
 
@@ -187,13 +192,13 @@ numbered-asks numbered opening u pass number deed text behind asked rest have fe
 -- ---- it is answered, after its line was counted
 
 -- answering it answers that line
-pub usual-answers : {s t s' : Broker} {request : Request} {text rest before after : List ℕ} → Asks s.is_numbered request text rest → t ≡ counted s → s' ≡ after_reading t (Ok (Some request)) → after ≡ before ++ text_of_lines (said_to t (Ok (Some request))) → AnswersFirst s s' text rest before after
-usual-answers {s = s} {request = request} {before = before} asked is_counted leaves said = record {
-  line = Some asked.line;
-  first = asked.first;
-  leaves = leaves ∙ ap (λ b. after_reading b (Ok (Some request))) is_counted ∙ ap (after_reading (counted s)) (sym asked.reading);
-  said = said ∙ ap (λ b. before ++ text_of_lines (said_to b (Ok (Some request)))) is_counted ∙ ap (λ r. before ++ text_of_lines (said_to (counted s) r)) (sym asked.reading);
-}
+pub usual-answers : {s t s' : Broker} {request : Request} {text rest before after : List ℕ} → Asks s.is_numbered request text rest → t ≡ counted s → s' ≡ after_reading t (Ok (Some request)) → after ≡ before ++ text_of_lines (said_to t (Ok (Some request))) → Takes serves s s' text rest before after × (length rest < length text)
+usual-answers {s = s} {s' = s'} {request = request} {text = text} {rest = rest} {before = before} {after = after} asked is_counted leaves said = (
+  takes-line serves s s' text rest before after (Some asked.line) asked.first
+  (leaves ∙ ap (λ b. after_reading b (Ok (Some request))) is_counted ∙ ap (after_reading (counted s)) (sym asked.reading))
+  (said ∙ ap (λ b. before ++ text_of_lines (said_to b (Ok (Some request)))) is_counted ∙ ap (λ r. before ++ text_of_lines (said_to (counted s) r)) (sym asked.reading)),
+  asked.shorter,
+)
 
 -- and where memory is wanting on the way to its answer, it is wanting on the way to that of the line
 pub usual-stops : {s t s' : Broker} {request : Request} {text rest before after : List ℕ} → Asks s.is_numbered request text rest → t ≡ counted s → StopsAtReading t s' (Ok (Some request)) before after → StopsAtFirst s s' text before after
@@ -208,7 +213,7 @@ usual-stops {s = s} {s' = s'} {request = request} {rest = rest} {before = before
 
 -- so the first line is taken, where there is an error
 pub taken_in_part : {E : Type 0} {s s' : Broker} {text before after : List ℕ} (r : Result (Bor (List ℕ)) E) → IsErr r → StopsAtFirst s s' text before after → TakesFirst r s s' text before after
-taken_in_part {s = s} {s' = s'} {text = text} {before = before} {after = after} r failed stops = MatchResult-from_err r (λ rest. AnswersFirst s s' text rest.now before after) _ failed (λ error. stops)
+taken_in_part {s = s} {s' = s'} {text = text} {before = before} {after = after} r failed stops = MatchResult-from_err r (λ rest. Takes serves s s' text rest.now before after × (length rest.now < length text)) _ failed (λ error. stops)
 
 -- ---- a text of whole lines
 

@@ -20,11 +20,7 @@ impl Machine for Broker {
     }
 
     #[inline(always)]
-    fn take_first<'a>(
-        &mut self,
-        text: &'a [u8],
-        out: &mut Vec<u8>,
-    ) -> Result<&'a [u8], AllocError> {
+    fn take<'a>(&mut self, text: &'a [u8], out: &mut Vec<u8>) -> Result<&'a [u8], AllocError> {
         if self.is_worn_out() {
             return Err(AllocError);
         }

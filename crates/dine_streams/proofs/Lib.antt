@@ -12,5 +12,6 @@ pub mod Short
 mod Printing
 mod Outcomes
 mod Listening
-mod Openings
+mod Takings
+mod OnceReads
 pub mod CallerLemmas

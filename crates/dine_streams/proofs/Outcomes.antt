@@ -1,13 +1,14 @@
 -- How a run of a command ends.
-use Rattle.std.proofs.Common.{◌++◌, ◌≡◌, ℕ, Bool, true, false, List, Option, IfSome, IfOk, OnOk, Result, Ok, Err, sym, ◌∙◌}
+use Rattle.std.proofs.Common.{◌++◌, ◌≡◌, ◌≢◌, ℕ, Bool, true, false, List, Option, IfSome, IfOk, OnOk, Result, Ok, Err, sym, ◌∙◌}
 use Rattle.std.specs.Result.{IsErr}
+use Rattle.std.specs.Io.KnownBytes.{Appends}
 use Rattle.dine_words.specs.Texts.{text_of_lines}
 use Rattle.dine_streams.specs.declared.ended.CliFault.{CliFault}
 use Rattle.dine_streams.specs.declared.ended.CliFault.TheVariants.{Memory, Read, Write}
 use Rattle.dine_streams.specs.Written.{AppendsLinesOf, AppendsPartOf}
-use Rattle.dine_streams.proofs.Printing.{of_known}
+use Rattle.dine_streams.proofs.Printing.{all-on, lines-more, lines-on, of_known, part-more, part-on}
 use Rattle.dine_streams.specs.Machines.{Rules, printed_for}
-use Rattle.dine_streams.specs.Runs.{HasPrinted, Ran, Writes}
+use Rattle.dine_streams.specs.Runs.{IsReadFor, OwedAtRead, Ran, ReadFailed, Writes, Writing}
 
 -- ---- what a result tells
 
@@ -37,9 +38,10 @@ two_faults {fault = fault} {told = told} same differ = differ (let is : fault �
 -- ---- runs
 
 -- a run that gave up: what it has written by then
-pub ran-in_part : {S A : Type 0} (r : Result A CliFault) (Ends : A → List ℕ → Type 0) (m : Rules S) (first : List (List ℕ)) (s : S) (input rest old new : Option (List ℕ)) (ro rn wo wn : Bool) → IsErr r → (r ≡ Err Read → HasPrinted m first s input rest old new × (rn ≡ true)) → (r ≡ Err Memory → IfSome input (λ bytes. AppendsLinesOf old new (first ++ printed_for m s bytes))) → (r ≡ Err Write → IfSome input (λ bytes. AppendsPartOf old new (text_of_lines (first ++ printed_for m s bytes)))) → (r ≡ Err Write → wn ≡ true) → Ran r Ends m first s input rest old new ro rn wo wn
-ran-in_part (Ok x) Ends m first s input rest old new ro rn wo wn gave_up read memory write mark = absurd (let two : false ≡ true = gave_up in cc)
-ran-in_part (Err fault) Ends m first s input rest old new ro rn wo wn gave_up read memory write mark = record {
+pub ran-in_part : {S A : Type 0} (r : Result A CliFault) (Ends : A → List ℕ → Type 0) (writing : Writing) (m : Rules S) (first : List (List ℕ)) (s : S) (input rest old new : Option (List ℕ)) (ro rn wo wn : Bool) → IsErr r → (r ≡ Err Read → OwedAtRead writing m first s input rest old new × ReadFailed writing rn input) → (r ≡ Err Memory → IfSome input (λ bytes. AppendsLinesOf old new (first ++ printed_for m s bytes))) → (r ≡ Err Write → IfSome input (λ bytes. AppendsPartOf old new (text_of_lines (first ++ printed_for m s bytes)))) → (r ≡ Err Write → wn ≡ true) → (r ≢ Err Read → IsReadFor writing input rest ro rn) → Ran r Ends writing m first s input rest old new ro rn wo wn
+ran-in_part (Ok x) Ends writing m first s input rest old new ro rn wo wn gave_up read memory write mark whole = absurd (let two : false ≡ true = gave_up in cc)
+ran-in_part (Err fault) Ends writing m first s input rest old new ro rn wo wn gave_up read memory write mark whole = record {
+  whole = whole;
   output = tt;
   ended = tt;
   at_each_read = λ failed. (read failed).0;
@@ -54,17 +56,19 @@ ran-in_part (Err fault) Ends m first s input rest old new ro rn wo wn gave_up re
 }
 
 -- a run that hands on the fault of another is as that was, whatever its value would tell
-pub ran-gave_up : {S A B : Type 0} (r : Result A CliFault) (r' : Result B CliFault) (Ends : A → List ℕ → Type 0) (Ends' : B → List ℕ → Type 0) (m : Rules S) (first : List (List ℕ)) (s : S) (input rest old new : Option (List ℕ)) (ro rn wo wn : Bool) → IsErr r' → (r' ≡ Err Read → r ≡ Err Read) → (r' ≡ Err Memory → r ≡ Err Memory) → (r' ≡ Err Write → r ≡ Err Write) → Ran r Ends m first s input rest old new ro rn wo wn → Ran r' Ends' m first s input rest old new ro rn wo wn
-ran-gave_up r r' Ends Ends' m first s input rest old new ro rn wo wn gave_up read memory write ran =
-    ran-in_part r' Ends' m first s input rest old new ro rn wo wn gave_up
+pub ran-gave_up : {S A B : Type 0} (r : Result A CliFault) (r' : Result B CliFault) (Ends : A → List ℕ → Type 0) (Ends' : B → List ℕ → Type 0) (writing : Writing) (m : Rules S) (first : List (List ℕ)) (s : S) (input rest old new : Option (List ℕ)) (ro rn wo wn : Bool) → IsErr r' → (r' ≡ Err Read → r ≡ Err Read) → (r' ≡ Err Memory → r ≡ Err Memory) → (r' ≡ Err Write → r ≡ Err Write) → (r ≡ Err Read → r' ≡ Err Read) → Ran r Ends writing m first s input rest old new ro rn wo wn → Ran r' Ends' writing m first s input rest old new ro rn wo wn
+ran-gave_up r r' Ends Ends' writing m first s input rest old new ro rn wo wn gave_up read memory write read_back ran =
+    ran-in_part r' Ends' writing m first s input rest old new ro rn wo wn gave_up
     (λ failed. (ran.at_each_read (read failed), ran.marks.read_mark (read failed)))
     (λ failed. ran.memory (memory failed))
     (λ failed. ran.write (write failed))
     (λ failed. ran.marks.write_mark (write failed))
+    (λ other. ran.whole (λ failed. other (read_back failed)))
 
 -- a run that came to its end, with another value of which as much is known
-pub ran-well : {S A B : Type 0} (x : A) (y : B) (Ends : A → List ℕ → Type 0) (Ends' : B → List ℕ → Type 0) (m : Rules S) (first : List (List ℕ)) (s : S) (input rest old new : Option (List ℕ)) (ro rn wo wn : Bool) → ((bytes : List ℕ) → Ends x bytes → Ends' y bytes) → Ran (Ok x) Ends m first s input rest old new ro rn wo wn → Ran (Ok y) Ends' m first s input rest old new ro rn wo wn
-ran-well x y Ends Ends' m first s input rest old new ro rn wo wn tells ran = record {
+pub ran-well : {S A B : Type 0} (x : A) (y : B) (Ends : A → List ℕ → Type 0) (Ends' : B → List ℕ → Type 0) (writing : Writing) (m : Rules S) (first : List (List ℕ)) (s : S) (input rest old new : Option (List ℕ)) (ro rn wo wn : Bool) → ((bytes : List ℕ) → Ends x bytes → Ends' y bytes) → Ran (Ok x) Ends writing m first s input rest old new ro rn wo wn → Ran (Ok y) Ends' writing m first s input rest old new ro rn wo wn
+ran-well x y Ends Ends' writing m first s input rest old new ro rn wo wn tells ran = record {
+  whole = λ other. ran.whole (no_fault x Read);
   output = ran.output;
   ended = of_known input (Ends x) (Ends' y) tells ran.ended;
   at_each_read = λ failed. absurd (no_fault y Read failed);
@@ -84,8 +88,9 @@ ends-known (Ok x) Ends Ends' input tells ended = of_known input (Ends x) (Ends' 
 ends-known (Err fault) Ends Ends' input tells ended = tt
 
 -- a run of whose value more is known
-pub ran-ends : {S A : Type 0} (r : Result A CliFault) (Ends Ends' : A → List ℕ → Type 0) (m : Rules S) (first : List (List ℕ)) (s : S) (input rest old new : Option (List ℕ)) (ro rn wo wn : Bool) → ((x : A) (bytes : List ℕ) → Ends x bytes → Ends' x bytes) → Ran r Ends m first s input rest old new ro rn wo wn → Ran r Ends' m first s input rest old new ro rn wo wn
-ran-ends r Ends Ends' m first s input rest old new ro rn wo wn tells ran = record {
+pub ran-ends : {S A : Type 0} (r : Result A CliFault) (Ends Ends' : A → List ℕ → Type 0) (writing : Writing) (m : Rules S) (first : List (List ℕ)) (s : S) (input rest old new : Option (List ℕ)) (ro rn wo wn : Bool) → ((x : A) (bytes : List ℕ) → Ends x bytes → Ends' x bytes) → Ran r Ends writing m first s input rest old new ro rn wo wn → Ran r Ends' writing m first s input rest old new ro rn wo wn
+ran-ends r Ends Ends' writing m first s input rest old new ro rn wo wn tells ran = record {
+  whole = ran.whole;
   output = ran.output;
   ended = ends-known r Ends Ends' input tells ran.ended;
   at_each_read = ran.at_each_read;
@@ -97,9 +102,9 @@ ran-ends r Ends Ends' m first s input rest old new ro rn wo wn tells ran = recor
 -- ---- steps
 
 -- a step that found no memory: what was written by then
-pub writes-in_lines : {A : Type 0} (r : Result A CliFault) (bytes : List ℕ) (Left : Type 0) (old new : Option (List ℕ)) (mark_old mark_new : Bool) → r ≡ Err Memory → Left → Writes r bytes Left old new mark_old mark_new
-writes-in_lines (Ok x) bytes Left old new mark_old mark_new is left = absurd (no_fault x Memory is)
-writes-in_lines (Err fault) bytes Left old new mark_old mark_new is left = record {
+pub writes-in_lines : {A : Type 0} (r : Result A CliFault) (lines : List (List ℕ)) (old new : Option (List ℕ)) (mark_old mark_new : Bool) → r ≡ Err Memory → AppendsLinesOf old new lines → Writes r lines old new mark_old mark_new
+writes-in_lines (Ok x) lines old new mark_old mark_new is left = absurd (no_fault x Memory is)
+writes-in_lines (Err fault) lines old new mark_old mark_new is left = record {
   written = tt;
   memory = λ failed. left;
   write = λ failed. absurd (two_faults (sym is ∙ failed) (λ same. absurd cc));
@@ -111,15 +116,42 @@ writes-in_lines (Err fault) bytes Left old new mark_old mark_new is left = recor
 }
 
 -- a step whose write failed
-pub writes-in_part : {A : Type 0} (r : Result A CliFault) (bytes : List ℕ) (Left : Type 0) (old new : Option (List ℕ)) (mark_old mark_new : Bool) → r ≡ Err Write → AppendsPartOf old new bytes → mark_new ≡ true → Writes r bytes Left old new mark_old mark_new
-writes-in_part (Ok x) bytes Left old new mark_old mark_new is part mark = absurd (no_fault x Write is)
-writes-in_part (Err fault) bytes Left old new mark_old mark_new is part mark = record {
+pub writes-in_part : {A : Type 0} (r : Result A CliFault) (lines : List (List ℕ)) (old new : Option (List ℕ)) (mark_old mark_new : Bool) → r ≡ Err Write → AppendsPartOf old new (text_of_lines lines) → mark_new ≡ true → Writes r lines old new mark_old mark_new
+writes-in_part (Ok x) lines old new mark_old mark_new is part mark = absurd (no_fault x Write is)
+writes-in_part (Err fault) lines old new mark_old mark_new is part mark = record {
   written = tt;
   memory = λ failed. absurd (two_faults (sym is ∙ failed) (λ same. absurd cc));
   write = λ failed. part;
   writes_only = record {
     no_read = λ failed. two_faults (sym is ∙ failed) (λ same. absurd cc);
     mark = λ failed. mark;
+    unmarked = tt;
+  };
+}
+
+-- a step behind lines that are written
+pub writes-behind : {A : Type 0} (r : Result A CliFault) (first lines : List (List ℕ)) (old mid new : Option (List ℕ)) (wo wm wn : Bool) → Appends old mid (text_of_lines first) → wm ≡ wo → Writes r lines mid new wm wn → Writes r (first ++ lines) old new wo wn
+writes-behind r first lines old mid new wo wm wn wrote same next = record {
+  written = on_ok r (all-on old mid new first lines wrote) next.written;
+  memory = λ failed. lines-on old mid new first lines wrote (next.memory failed);
+  write = λ failed. part-on old mid new first lines wrote (next.write failed);
+  writes_only = record {
+    no_read = next.writes_only.no_read;
+    mark = next.writes_only.mark;
+    unmarked = on_ok r (λ unmarked. unmarked ∙ same) next.writes_only.unmarked;
+  };
+}
+
+-- a step that gave up before others
+pub writes-front : {A B : Type 0} (r : Result A CliFault) (r' : Result B CliFault) (lines later : List (List ℕ)) (old new : Option (List ℕ)) (wo wn : Bool) → IsErr r' → (r' ≡ Err Read → r ≡ Err Read) → (r' ≡ Err Memory → r ≡ Err Memory) → (r' ≡ Err Write → r ≡ Err Write) → Writes r lines old new wo wn → Writes r' (lines ++ later) old new wo wn
+writes-front r (Ok x) lines later old new wo wn gave_up read memory write step = absurd (let two : false ≡ true = gave_up in cc)
+writes-front r (Err fault) lines later old new wo wn gave_up read memory write step = record {
+  written = tt;
+  memory = λ failed. lines-more old new lines later (step.memory (memory failed));
+  write = λ failed. part-more old new lines later (step.write (write failed));
+  writes_only = record {
+    no_read = λ failed. step.writes_only.no_read (read failed);
+    mark = λ failed. step.writes_only.mark (write failed);
     unmarked = tt;
   };
 }

@@ -1,26 +1,15 @@
 -- What is said to lines that are heard in several pieces, and what of it is written.
-use Rattle.std.proofs.Common.{◌≡◌, ℕ, ◌+◌, min, List, [], ◌∷◌, ◌++◌, length, take, Option, Some, None, IfSome, refl, sym, ap, ◌∙◌, subst, append_assoc, arith}
+use Rattle.std.proofs.Common.{◌≡◌, ℕ, ◌+◌, min, List, [], ◌∷◌, ◌++◌, length, take, Option, Some, None, IfSome, refl, sym, ap, ◌∙◌, subst, append_assoc, append-nil, arith}
 use Rattle.std.proofs.Math.Seq.{take-append-add, take-append_seam}
 use Rattle.std.proofs.lemmas.List.{take-append-le, take_min}
 use Rattle.std.proofs.lemmas.Grind.{flat_map-append}
-use Rattle.std.proofs.KnownBytes.{Appends-trans}
+use Rattle.std.proofs.KnownBytes.{Appends-nil, Appends-trans}
 use Rattle.std.specs.Io.KnownBytes.{Appends, Consumes}
 use Rattle.dine_streams.specs.Lines.{begun_line, kept_of, seen_lines}
 use Rattle.dine_streams.proofs.Hearing.{seen-pieces}
 use Rattle.dine_streams.specs.Written.{AppendsLinesOf, AppendsPartOf}
 use Rattle.dine_words.specs.Texts.{text_of_lines}
 use Rattle.dine_streams.specs.Machines.{Rules, printed_from, printed_for, left_by}
-
--- ---- the first of the lines
-
-module _ {S : Type 0} (m : Rules S) (s s' : S) (line : Option (List ℕ)) (now lines : List (Option (List ℕ))) (is : now ≡ line ∷ lines) (after : s' ≡ m.after s line) where
-  -- what is said to it comes first
-  pub printed_from-first : printed_from m s now ≡ m.prints s line ++ printed_from m s' lines
-  printed_from-first = ap (printed_from m s) is ∙ ap (λ t. m.prints s line ++ printed_from m t lines) (sym after)
-
-  -- and what it leaves comes first
-  pub left_by-first : left_by m s now ≡ left_by m s' lines
-  left_by-first = ap (left_by m s) is ∙ ap (λ t. left_by m t lines) (sym after)
 
 -- ---- several pieces
 
@@ -92,6 +81,32 @@ part-later a b c first next later wrote (n, more) =
 pub lines-all : (a b : Option (List ℕ)) (first later : List (List ℕ)) → Appends a b (text_of_lines first) → AppendsLinesOf a b (first ++ later)
 lines-all a b first later wrote =
     (length first, subst (λ lines. Appends a b (text_of_lines lines)) (sym (take-append_seam first later)) wrote)
+
+-- ---- what is written behind lines that are written
+
+-- all of others
+pub all-on : (a b c : Option (List ℕ)) (first next : List (List ℕ)) → Appends a b (text_of_lines first) → Appends b c (text_of_lines next) → Appends a c (text_of_lines (first ++ next))
+all-on a b c first next wrote more = subst (Appends a c) (sym (flat_map-append _ first next)) (Appends-trans a b c _ _ wrote more)
+
+-- some first lines of them
+pub lines-on : (a b c : Option (List ℕ)) (first next : List (List ℕ)) → Appends a b (text_of_lines first) → AppendsLinesOf b c next → AppendsLinesOf a c (first ++ next)
+lines-on a b c first next wrote more =
+    subst (AppendsLinesOf a c) (append-nil (first ++ next)) (lines-later a b c first next [] wrote more)
+
+-- some first bytes of them
+pub part-on : (a b c : Option (List ℕ)) (first next : List (List ℕ)) → Appends a b (text_of_lines first) → AppendsPartOf b c (text_of_lines next) → AppendsPartOf a c (text_of_lines (first ++ next))
+part-on a b c first next wrote more =
+    subst (λ l. AppendsPartOf a c (text_of_lines l)) (append-nil (first ++ next)) (part-later a b c first next [] wrote more)
+
+-- ---- what is written of lines is written of more
+
+pub lines-more : (a b : Option (List ℕ)) (lines later : List (List ℕ)) → AppendsLinesOf a b lines → AppendsLinesOf a b (lines ++ later)
+lines-more a b lines later wrote = lines-later a a b [] lines later (Appends-nil a) wrote
+
+pub part-more : (a b : Option (List ℕ)) (lines later : List (List ℕ)) → AppendsPartOf a b (text_of_lines lines) → AppendsPartOf a b (text_of_lines (lines ++ later))
+part-more a b lines later wrote = part-later a a b [] lines later (Appends-nil a) wrote
+
+-- ---- bytes that are known
 
 -- what follows from what holds of known bytes
 pub of_known : (o : Option (List ℕ)) (P Q : List ℕ → Type 0) → ((x : List ℕ) → P x → Q x) → IfSome o P → IfSome o Q

@@ -1,5 +1,5 @@
 -- What a command is, as a function of the lines of its input: which lines it prints, and where each line leaves it.
-use Rattle.std.specs.Prelude.{◌≡◌, ℕ, ◌<◌, length, List, [], ◌∷◌, ◌++◌, Option}
+use Rattle.std.specs.Prelude.{◌≡◌, ℕ, List, [], ◌∷◌, ◌++◌, Option}
 use Rattle.dine_words.specs.Texts.{text_of_lines}
 use Rattle.dine_streams.specs.Lines.{begun_line, kept_of, seen_lines}
 
@@ -31,11 +31,23 @@ printed_for m s input =
 abbrev pub standing_after : {S : Type 0} → Rules S → S → List ℕ → S
 standing_after m s input = m.after_last (left_by m s (seen_lines [] input)) (kept_of (begun_line [] input))
 
--- the first line of a text was taken, what is printed for it is appended, and the rest comes after it
-pub record TakesFirst {S : Type 0} (m : Rules S) (s s' : S) (text rest before after : List ℕ) : Type 0 where
-  pub line : Option (List ℕ)
-  pub seen : seen_lines [] text ≡ line ∷ seen_lines [] rest
+-- a text has these lines first, as they are seen, and the rest comes after them
+pub record HasLines (text : List ℕ) (lines : List (Option (List ℕ))) (rest : List ℕ) : Type 0 where
+  pub front : List ℕ
+  pub cut : text ≡ front ++ rest
+  pub seen : seen_lines [] text ≡ lines ++ seen_lines [] rest
   pub begun : begun_line [] rest ≡ begun_line [] text
-  pub shorter : length rest < length text
-  pub leaves : s' ≡ m.after s line
-  pub printed : after ≡ before ++ text_of_lines (m.prints s line)
+
+-- lines at the front of a text were taken, up to the rest: they left the command so, and what is printed for them is appended
+pub record Takes {S : Type 0} (m : Rules S) (s s' : S) (text rest before after : List ℕ) : Type 0 where
+  pub lines : List (Option (List ℕ))
+  pub has : HasLines text lines rest
+  pub leaves : s' ≡ left_by m s lines
+  pub printed : after ≡ before ++ text_of_lines (printed_from m s lines)
+
+-- what is printed for some lines at the front of a text is appended, and nothing is told of the others
+pub record TakesPart {S : Type 0} (m : Rules S) (s : S) (text before after : List ℕ) : Type 0 where
+  pub lines : List (Option (List ℕ))
+  pub others : List (Option (List ℕ))
+  pub seen : seen_lines [] text ≡ lines ++ others
+  pub printed : after ≡ before ++ text_of_lines (printed_from m s lines)

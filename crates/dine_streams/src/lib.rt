@@ -9,6 +9,8 @@ mod ended;
 mod handed_line;
 mod input;
 mod machine;
+mod once_read;
+mod steps;
 mod whole;
 mod without_memory;
 
@@ -18,5 +20,6 @@ pub use ended::{CliFault, Ended, end_of, finish};
 pub use handed_line::Line;
 pub use input::{CHUNK, InputBuffer, InputFault, MAX_INPUT};
 pub use machine::Machine;
+pub use once_read::run_once_read;
 pub use whole::{LARGE_WRITE, read_whole, write_if_enough, write_whole};
 pub use without_memory::{fault_without_memory, read_out};

@@ -9,7 +9,8 @@ use Rattle.dine_serve.proofs.serving.run_serve.Goals as goal
 pub returns-in_err-run : goal.returns-in_err-run
 returns-in_err-run g c =
     let r = c.from_residual-in_err-run.result in
-    ran-gave_up c.run.result r _ _ _ _ _ _ _ _ _ _ _ _ _ c.from_residual-in_err-run.ensures.0
+    ran-gave_up c.run.result r _ _ _ _ _ _ _ _ _ _ _ _ _ _ c.from_residual-in_err-run.ensures.0
+    (λ failed. search rules)
     (λ failed. search rules)
     (λ failed. search rules)
     (λ failed. search rules)
@@ -17,6 +18,6 @@ returns-in_err-run g c =
 
 pub returns : goal.returns
 returns g c =
-    ran-well _ c.end_of.result _ _ _ _ _ _ _ _ _ _ _ _ _
+    ran-well _ c.end_of.result _ _ _ _ _ _ _ _ _ _ _ _ _ _
     (λ bytes left. c.end_of.ensures ∙ ap end_of (c.has_fault.ensures ∙ ap (λ (s : Broker). s.has_fault) left))
     (rw c.in_ok-broker.ensures at c.in_ok-run.ensures)
