@@ -24,8 +24,9 @@ use Rattle.dine_serve.specs.declared.request.Request.{Request}
 use Rattle.dine_serve.specs.declared.request.Request.TheVariants.{Numbered, Order}
 use Rattle.dine_serve.specs.Partly.{StopsAtReading}
 use Rattle.dine_serve.specs.Requests.{deed_of, numbered_by, numbered_request, order_at, pass_at, reading_of, request_by, request_of, spaced_at}
-use Rattle.dine_serve.specs.Serving.{Broker, after_reading, counted, said_to}
-use Rattle.dine_serve.specs.UsualForms.{AnswersFirst, HasFirst, IsAbout, StopsAtFirst, TakesFirst}
+use Rattle.dine_serve.specs.Serving.{Broker, after_reading, counted, said_to, serves}
+use Rattle.dine_streams.specs.Machines.{HasFirst, TakesFirst as Takes}
+use Rattle.dine_serve.specs.UsualForms.{IsAbout, StopsAtFirst, TakesFirst}
 
 -- ---- a line that begins with a number
 
@@ -187,12 +188,12 @@ numbered-asks numbered opening u pass number deed text behind asked rest have fe
 -- ---- it is answered, after its line was counted
 
 -- answering it answers that line
-pub usual-answers : {s t s' : Broker} {request : Request} {text rest before after : List ℕ} → Asks s.is_numbered request text rest → t ≡ counted s → s' ≡ after_reading t (Ok (Some request)) → after ≡ before ++ text_of_lines (said_to t (Ok (Some request))) → AnswersFirst s s' text rest before after
+pub usual-answers : {s t s' : Broker} {request : Request} {text rest before after : List ℕ} → Asks s.is_numbered request text rest → t ≡ counted s → s' ≡ after_reading t (Ok (Some request)) → after ≡ before ++ text_of_lines (said_to t (Ok (Some request))) → Takes serves s s' text rest before after
 usual-answers {s = s} {request = request} {before = before} asked is_counted leaves said = record {
   line = Some asked.line;
   first = asked.first;
   leaves = leaves ∙ ap (λ b. after_reading b (Ok (Some request))) is_counted ∙ ap (after_reading (counted s)) (sym asked.reading);
-  said = said ∙ ap (λ b. before ++ text_of_lines (said_to b (Ok (Some request)))) is_counted ∙ ap (λ r. before ++ text_of_lines (said_to (counted s) r)) (sym asked.reading);
+  printed = said ∙ ap (λ b. before ++ text_of_lines (said_to b (Ok (Some request)))) is_counted ∙ ap (λ r. before ++ text_of_lines (said_to (counted s) r)) (sym asked.reading);
 }
 
 -- and where memory is wanting on the way to its answer, it is wanting on the way to that of the line
@@ -208,7 +209,7 @@ usual-stops {s = s} {s' = s'} {request = request} {rest = rest} {before = before
 
 -- so the first line is taken, where there is an error
 pub taken_in_part : {E : Type 0} {s s' : Broker} {text before after : List ℕ} (r : Result (Bor (List ℕ)) E) → IsErr r → StopsAtFirst s s' text before after → TakesFirst r s s' text before after
-taken_in_part {s = s} {s' = s'} {text = text} {before = before} {after = after} r failed stops = MatchResult-from_err r (λ rest. AnswersFirst s s' text rest.now before after) _ failed (λ error. stops)
+taken_in_part {s = s} {s' = s'} {text = text} {before = before} {after = after} r failed stops = MatchResult-from_err r (λ rest. Takes serves s s' text rest.now before after) _ failed (λ error. stops)
 
 -- ---- a text of whole lines
 

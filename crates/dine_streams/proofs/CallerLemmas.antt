@@ -17,8 +17,7 @@ pub use Rattle.dine_streams.proofs.Inputs.{all-heard, heard-none, heard-on, hear
 pub use Rattle.dine_streams.proofs.ReadOut.{of-input, of-whole, passed-on, past-later, well, well-read}
 -- what is left of a text of whole lines, and what comes behind one
 pub use Rattle.dine_streams.proofs.Feeds.{ended-left, ended-whatever}
--- a run of a command: what its outcome tells, and what was written where nothing was or a part of it
+-- a run of a command: what its outcome tells
 pub use Rattle.dine_streams.proofs.Outcomes.{on_ok, ran-ends, ran-gave_up, ran-well}
-pub use Rattle.dine_streams.proofs.Openings.{nothing-written}
 -- what holds of bytes that are known
 pub use Rattle.dine_streams.proofs.Printing.{for_all_known, of_known}

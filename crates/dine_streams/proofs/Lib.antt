@@ -12,5 +12,4 @@ pub mod Short
 mod Printing
 mod Outcomes
 mod Listening
-mod Openings
 pub mod CallerLemmas

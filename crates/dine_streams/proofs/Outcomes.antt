@@ -97,9 +97,9 @@ ran-ends r Ends Ends' m first s input rest old new ro rn wo wn tells ran = recor
 -- ---- steps
 
 -- a step that found no memory: what was written by then
-pub writes-in_lines : {A : Type 0} (r : Result A CliFault) (bytes : List ℕ) (Left : Type 0) (old new : Option (List ℕ)) (mark_old mark_new : Bool) → r ≡ Err Memory → Left → Writes r bytes Left old new mark_old mark_new
-writes-in_lines (Ok x) bytes Left old new mark_old mark_new is left = absurd (no_fault x Memory is)
-writes-in_lines (Err fault) bytes Left old new mark_old mark_new is left = record {
+pub writes-in_lines : {A : Type 0} (r : Result A CliFault) (lines : List (List ℕ)) (old new : Option (List ℕ)) (mark_old mark_new : Bool) → r ≡ Err Memory → AppendsLinesOf old new lines → Writes r lines old new mark_old mark_new
+writes-in_lines (Ok x) lines old new mark_old mark_new is left = absurd (no_fault x Memory is)
+writes-in_lines (Err fault) lines old new mark_old mark_new is left = record {
   written = tt;
   memory = λ failed. left;
   write = λ failed. absurd (two_faults (sym is ∙ failed) (λ same. absurd cc));
@@ -111,9 +111,9 @@ writes-in_lines (Err fault) bytes Left old new mark_old mark_new is left = recor
 }
 
 -- a step whose write failed
-pub writes-in_part : {A : Type 0} (r : Result A CliFault) (bytes : List ℕ) (Left : Type 0) (old new : Option (List ℕ)) (mark_old mark_new : Bool) → r ≡ Err Write → AppendsPartOf old new bytes → mark_new ≡ true → Writes r bytes Left old new mark_old mark_new
-writes-in_part (Ok x) bytes Left old new mark_old mark_new is part mark = absurd (no_fault x Write is)
-writes-in_part (Err fault) bytes Left old new mark_old mark_new is part mark = record {
+pub writes-in_part : {A : Type 0} (r : Result A CliFault) (lines : List (List ℕ)) (old new : Option (List ℕ)) (mark_old mark_new : Bool) → r ≡ Err Write → AppendsPartOf old new (text_of_lines lines) → mark_new ≡ true → Writes r lines old new mark_old mark_new
+writes-in_part (Ok x) lines old new mark_old mark_new is part mark = absurd (no_fault x Write is)
+writes-in_part (Err fault) lines old new mark_old mark_new is part mark = record {
   written = tt;
   memory = λ failed. absurd (two_faults (sym is ∙ failed) (λ same. absurd cc));
   write = λ failed. part;

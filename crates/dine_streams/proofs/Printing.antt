@@ -1,5 +1,5 @@
 -- What is said to lines that are heard in several pieces, and what of it is written.
-use Rattle.std.proofs.Common.{◌≡◌, ℕ, ◌+◌, min, List, [], ◌∷◌, ◌++◌, length, take, Option, Some, None, IfSome, refl, sym, ap, ◌∙◌, subst, append_assoc, arith}
+use Rattle.std.proofs.Common.{◌≡◌, ℕ, ◌+◌, min, List, [], ◌∷◌, ◌++◌, length, take, Option, Some, None, IfSome, refl, sym, ap, ◌∙◌, subst, append_assoc, append-nil, arith}
 use Rattle.std.proofs.Math.Seq.{take-append-add, take-append_seam}
 use Rattle.std.proofs.lemmas.List.{take-append-le, take_min}
 use Rattle.std.proofs.lemmas.Grind.{flat_map-append}
@@ -92,6 +92,24 @@ part-later a b c first next later wrote (n, more) =
 pub lines-all : (a b : Option (List ℕ)) (first later : List (List ℕ)) → Appends a b (text_of_lines first) → AppendsLinesOf a b (first ++ later)
 lines-all a b first later wrote =
     (length first, subst (λ lines. Appends a b (text_of_lines lines)) (sym (take-append_seam first later)) wrote)
+
+-- ---- what is written behind lines that are written
+
+-- all of others
+pub all-on : (a b c : Option (List ℕ)) (first next : List (List ℕ)) → Appends a b (text_of_lines first) → Appends b c (text_of_lines next) → Appends a c (text_of_lines (first ++ next))
+all-on a b c first next wrote more = subst (Appends a c) (sym (flat_map-append _ first next)) (Appends-trans a b c _ _ wrote more)
+
+-- some first lines of them
+pub lines-on : (a b c : Option (List ℕ)) (first next : List (List ℕ)) → Appends a b (text_of_lines first) → AppendsLinesOf b c next → AppendsLinesOf a c (first ++ next)
+lines-on a b c first next wrote more =
+    subst (AppendsLinesOf a c) (append-nil (first ++ next)) (lines-later a b c first next [] wrote more)
+
+-- some first bytes of them
+pub part-on : (a b c : Option (List ℕ)) (first next : List (List ℕ)) → Appends a b (text_of_lines first) → AppendsPartOf b c (text_of_lines next) → AppendsPartOf a c (text_of_lines (first ++ next))
+part-on a b c first next wrote more =
+    subst (λ l. AppendsPartOf a c (text_of_lines l)) (append-nil (first ++ next)) (part-later a b c first next [] wrote more)
+
+-- ---- bytes that are known
 
 -- what follows from what holds of known bytes
 pub of_known : (o : Option (List ℕ)) (P Q : List ℕ → Type 0) → ((x : List ℕ) → P x → Q x) → IfSome o P → IfSome o Q

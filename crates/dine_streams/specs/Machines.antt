@@ -31,11 +31,15 @@ printed_for m s input =
 abbrev pub standing_after : {S : Type 0} → Rules S → S → List ℕ → S
 standing_after m s input = m.after_last (left_by m s (seen_lines [] input)) (kept_of (begun_line [] input))
 
--- the first line of a text was taken, what is printed for it is appended, and the rest comes after it
-pub record TakesFirst {S : Type 0} (m : Rules S) (s s' : S) (text rest before after : List ℕ) : Type 0 where
-  pub line : Option (List ℕ)
+-- a text has this line first, as it is seen, and the rest comes after it
+pub record HasFirst (text : List ℕ) (line : Option (List ℕ)) (rest : List ℕ) : Type 0 where
   pub seen : seen_lines [] text ≡ line ∷ seen_lines [] rest
   pub begun : begun_line [] rest ≡ begun_line [] text
   pub shorter : length rest < length text
+
+-- the first line of a text was taken, what is printed for it is appended, and the rest comes after it
+pub record TakesFirst {S : Type 0} (m : Rules S) (s s' : S) (text rest before after : List ℕ) : Type 0 where
+  pub line : Option (List ℕ)
+  pub first : HasFirst text line rest
   pub leaves : s' ≡ m.after s line
   pub printed : after ≡ before ++ text_of_lines (m.prints s line)

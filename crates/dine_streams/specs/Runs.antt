@@ -25,10 +25,9 @@ pub record Ran {S A : Type 0} (outcome : Result A CliFault) (Ends : A → List �
   pub write : outcome ≡ Err Write → IfSome input (λ bytes. AppendsPartOf old new (text_of_lines (first ++ printed_for m s bytes)))
   pub marks : IsMarked outcome (read_new ≡ true) read_old read_new write_old write_new
 
--- a step reads nothing and writes these bytes: how it ended, what it has written then, and what the writer's mark tells.
--- `Left` is what is known where memory was wanting
-pub record Writes {A : Type 0} (outcome : Result A CliFault) (bytes : List ℕ) (Left : Type 0) (old new : Option (List ℕ)) (mark_old mark_new : Bool) : Type 0 where
-  pub written : OnOk outcome (Appends old new bytes)
-  pub memory : outcome ≡ Err Memory → Left
-  pub write : outcome ≡ Err Write → AppendsPartOf old new bytes
+-- a step reads nothing and writes these lines: how it ended, what it has written then, and what the writer's mark tells
+pub record Writes {A : Type 0} (outcome : Result A CliFault) (lines : List (List ℕ)) (old new : Option (List ℕ)) (mark_old mark_new : Bool) : Type 0 where
+  pub written : OnOk outcome (Appends old new (text_of_lines lines))
+  pub memory : outcome ≡ Err Memory → AppendsLinesOf old new lines
+  pub write : outcome ≡ Err Write → AppendsPartOf old new (text_of_lines lines)
   pub writes_only : WritesOnly outcome mark_old mark_new

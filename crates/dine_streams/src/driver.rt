@@ -1,12 +1,12 @@
 //! A command that is run: what it prints for the lines of a reader is written to a writer.
 
-ghost use Rattle.std.specs.Prelude.{◌≡◌, [], true, OnErr, OnOk};
-ghost use Rattle.std.specs.Io.KnownBytes.{Appends, Keeps};
+ghost use Rattle.std.specs.Prelude.{◌≡◌, ℕ, List, [], true, OnErr, OnOk};
+ghost use Rattle.std.specs.Io.KnownBytes.{Appends};
 ghost use Rattle.dine_words.specs.Texts.{text_of_lines};
 ghost use Rattle.dine_streams.specs.Lines.{begun_line, seen_lines};
 ghost use Rattle.dine_streams.specs.Machines.{left_by, printed_from, standing_after};
 ghost use Rattle.dine_streams.specs.Runs.{Ran, Writes};
-ghost use Rattle.dine_streams.specs.Written.{AppendsLinesOf, AppendsPartOf};
+ghost use Rattle.dine_streams.specs.Written.{AppendsPartOf};
 
 use crate::buffer::LineBuffer;
 use crate::ended::CliFault;
@@ -34,21 +34,9 @@ pub fn run<M: Machine, R: Source, W: Sink>(
         (W.contents writer.old) (W.contents writer.new)
         (R.mark reader.old) (R.mark reader.new) (W.mark writer.old) (W.mark writer.new) }
 {
-    open(alloc, machine, writer)?;
-    go_on(alloc, machine, reader, writer)
-}
-
-// Writes what a command prints before any line comes.
-fn open<M: Machine, W: Sink>(alloc: Global, machine: &M, writer: &mut W) -> Result<(), CliFault>
-    ensures { Writes result (text_of_lines (M.rules.prints_first machine.now))
-        (Keeps (W.contents writer.old) (W.contents writer.new))
-        (W.contents writer.old) (W.contents writer.new)
-        (W.mark writer.old) (W.mark writer.new) }
-{
     let mut first = Vec::new(alloc);
     machine.open(&mut first)?;
-    write_whole(writer, &first)?;
-    Ok(())
+    listen(alloc, machine, &mut first, reader, writer)
 }
 
 /// As [`run`], of a command whose first lines are not to be printed.
@@ -65,17 +53,35 @@ pub fn go_on<M: Machine, R: Source, W: Sink>(
         (W.contents writer.old) (W.contents writer.new)
         (R.mark reader.old) (R.mark reader.new) (W.mark writer.old) (W.mark writer.new) }
 {
+    listen(alloc, machine, &mut Vec::new(alloc), reader, writer)
+}
+
+// Runs a command whose first lines are pending.
+fn listen<M: Machine, R: Source, W: Sink>(
+    alloc: Global,
+    machine: &mut M,
+    pending: &mut Vec<u8>,
+    reader: &mut R,
+    writer: &mut W,
+) -> Result<(), CliFault>
+    ensures { (first : List (List ℕ)) → pending.old.items ≡ text_of_lines first → Ran result
+        (λ done input. machine.new ≡ standing_after M.rules machine.old input)
+        M.rules first machine.old
+        (R.remaining reader.old) (R.remaining reader.new)
+        (W.contents writer.old) (W.contents writer.new)
+        (R.mark reader.old) (R.mark reader.new) (W.mark writer.old) (W.mark writer.new) }
+{
+    flush(writer, pending)?;
     let mut buffer = LineBuffer::new(alloc)?;
-    let mut pending = Vec::new(alloc);
     'reads: for _ in 0..u64::MAX {
         let has_come = match buffer.hear(reader) {
             Ok(has_come) => has_come,
             Err(_) => return Err(CliFault::Read),
         };
         if !has_come {
-            return take_last(machine, buffer.begun(), &mut pending, writer);
+            return take_last(machine, buffer.begun(), pending, writer);
         }
-        take_lines(machine, buffer.lines(), &mut pending, writer)?;
+        take_lines(machine, buffer.lines(), pending, writer)?;
     }
     Err(CliFault::Memory)
 }
@@ -92,10 +98,7 @@ fn take_lines<M: Machine, W: Sink>(
     ensures after { OnOk result
         (machine.new ≡ left_by M.rules machine.old (seen_lines [] text.now)) }
     ensures none_pending { OnOk result (pending.new.items ≡ []) }
-    ensures writes { Writes result
-        (text_of_lines (printed_from M.rules machine.old (seen_lines [] text.now)))
-        (AppendsLinesOf (W.contents writer.old) (W.contents writer.new)
-        (printed_from M.rules machine.old (seen_lines [] text.now)))
+    ensures writes { Writes result (printed_from M.rules machine.old (seen_lines [] text.now))
         (W.contents writer.old) (W.contents writer.new)
         (W.mark writer.old) (W.mark writer.new) }
 {
@@ -132,8 +135,7 @@ fn take_last<M: Machine, W: Sink>(
 ) -> Result<(), CliFault>
     requires { last.old.items ≡ [] }
     ensures after { OnOk result (machine.new ≡ M.rules.after_last machine.old begun.now) }
-    ensures writes { Writes result (text_of_lines (M.rules.prints_last machine.old begun.now))
-        (Keeps (W.contents writer.old) (W.contents writer.new))
+    ensures writes { Writes result (M.rules.prints_last machine.old begun.now)
         (W.contents writer.old) (W.contents writer.new)
         (W.mark writer.old) (W.mark writer.new) }
 {
