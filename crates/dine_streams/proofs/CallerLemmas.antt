@@ -19,5 +19,5 @@ pub use Rattle.dine_streams.proofs.ReadOut.{of-input, of-whole, passed-on, past-
 pub use Rattle.dine_streams.proofs.Feeds.{ended-left, ended-whatever}
 -- a run of a command: what its outcome tells
 pub use Rattle.dine_streams.proofs.Outcomes.{on_ok, ran-ends, ran-gave_up, ran-well}
--- what holds of bytes that are known
-pub use Rattle.dine_streams.proofs.Printing.{for_all_known, of_known}
+-- what holds of bytes that are known, and an output of which nothing is written
+pub use Rattle.dine_streams.proofs.Printing.{for_all_known, nothing-written, of_known}

@@ -3,8 +3,8 @@ use Rattle.std.proofs.Common.{◌≡◌, ℕ, ◌+◌, min, List, [], ◌∷◌,
 use Rattle.std.proofs.Math.Seq.{take-append-add, take-append_seam}
 use Rattle.std.proofs.lemmas.List.{take-append-le, take_min}
 use Rattle.std.proofs.lemmas.Grind.{flat_map-append}
-use Rattle.std.proofs.KnownBytes.{Appends-trans}
-use Rattle.std.specs.Io.KnownBytes.{Appends, Consumes}
+use Rattle.std.proofs.KnownBytes.{Appends-kept, Appends-nil, Appends-trans}
+use Rattle.std.specs.Io.KnownBytes.{Appends, Consumes, Keeps}
 use Rattle.dine_streams.specs.Lines.{begun_line, kept_of, seen_lines}
 use Rattle.dine_streams.proofs.Hearing.{seen-pieces}
 use Rattle.dine_streams.specs.Written.{AppendsLinesOf, AppendsPartOf}
@@ -120,3 +120,7 @@ of_known (Some x) P Q more holds = more x holds
 pub for_all_known : (o : Option (List ℕ)) (P : List ℕ → Type 0) → ((x : List ℕ) → P x) → IfSome o P
 for_all_known None P each = tt
 for_all_known (Some x) P each = each x
+
+-- nothing is written
+pub nothing-written : (input old new : Option (List ℕ)) (lines : List ℕ → List (List ℕ)) → Keeps old new → IfSome input (λ all. AppendsLinesOf old new (lines all))
+nothing-written input old new lines kept = for_all_known input (λ all. AppendsLinesOf old new (lines all)) (λ all. (0, Appends-kept old old new [] (Appends-nil old) kept))
