@@ -1,5 +1,4 @@
-use Rattle.std.proofs.Common.{◌≡◌, Err, ap, rules, ◌∙◌}
-use Rattle.dine_streams.specs.declared.ended.CliFault.TheVariants.{Memory, Read, Write}
+use Rattle.std.proofs.Common.{ap, rules, ◌∙◌}
 use Rattle.dine_streams.specs.Ending.{end_of}
 use Rattle.dine_serve.specs.Serving.{Broker}
 use Rattle.dine_streams.proofs.CallerLemmas.{ran-gave_up, ran-well}
