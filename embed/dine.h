@@ -22,7 +22,8 @@
  *   - No call is made from a signal handler, or in the child of a fork of a program with threads.
  *   - malloc, realloc and free are of one allocator, and align a block to 16.
  *
- * dine_open takes all memory and dine_close gives it back; dine_neighbours takes some and gives it back at once.
+ * dine_open takes all memory and dine_close gives it back; dine_neighbours, dine_blockers and dine_ready take some and give it
+ * back at once.
  */
 #ifndef DINE_H
 #define DINE_H
@@ -114,6 +115,13 @@ bool dine_next_ready(dine *d, dine_task *next);
    conflicts were declared, and how many there are to `count`: DINE_DONE. Else DINE_UNKNOWN, DINE_NO_MEMORY, or DINE_NO_SPACE where
    there are more than `room`; of these only the last writes the count. `found` isn't null, also where `room` is 0. */
 uint32_t dine_neighbours(dine *d, const dine_task *task, dine_task *found, size_t room, size_t *count);
+
+/* As dine_neighbours, those of these for which a hungry task waits: who eats, and who is hungry with an earlier last meal. There
+   are none for a task that isn't hungry, or that may begin. */
+uint32_t dine_blockers(dine *d, const dine_task *task, dine_task *found, size_t room, size_t *count);
+
+/* As dine_neighbours, all ready tasks, the one with the earliest last meal first. It doesn't answer DINE_UNKNOWN. */
+uint32_t dine_ready(dine *d, dine_task *found, size_t room, size_t *count);
 
 /* Whether one more conflict has room. */
 bool dine_has_room(dine *d);
@@ -216,12 +224,28 @@ static inline bool dine_who_is_next(dine *d, dine_task *next)
     return dine_is_open(d) && next && dine_next_ready(d, next);
 }
 
-/* `found` may be null, for no room, and so may `count`. */
+/* `found` may be null, for no room, and so may `count`: here and in the next two. */
 static inline uint32_t dine_neighbours_of(dine *d, dine_task task, dine_task *found, size_t room, size_t *count)
 {
     dine_task none = { 0, 0 };
     size_t unread = 0;
     return dine_is_open(d) ? dine_neighbours(d, &task, found ? found : &none, found ? room : 0, count ? count : &unread)
+                           : (uint32_t)DINE_BAD_HANDLE;
+}
+
+static inline uint32_t dine_blockers_of(dine *d, dine_task task, dine_task *found, size_t room, size_t *count)
+{
+    dine_task none = { 0, 0 };
+    size_t unread = 0;
+    return dine_is_open(d) ? dine_blockers(d, &task, found ? found : &none, found ? room : 0, count ? count : &unread)
+                           : (uint32_t)DINE_BAD_HANDLE;
+}
+
+static inline uint32_t dine_who_is_ready(dine *d, dine_task *found, size_t room, size_t *count)
+{
+    dine_task none = { 0, 0 };
+    size_t unread = 0;
+    return dine_is_open(d) ? dine_ready(d, found ? found : &none, found ? room : 0, count ? count : &unread)
                            : (uint32_t)DINE_BAD_HANDLE;
 }
 

@@ -86,8 +86,16 @@ static void tells_what_is_so(void)
     CHECK(found[0].slot == b.slot && found[0].born == b.born && found[1].slot == nobody.slot);
     CHECK(dine_neighbours_of(&d, a, NULL, 2, &count) == DINE_NO_SPACE && count == 1);
     CHECK(dine_neighbours_of(&d, nobody, found, 2, NULL) == DINE_UNKNOWN);
+    CHECK(dine_blockers_of(&d, nobody, found, 2, NULL) == DINE_UNKNOWN && dine_blockers_of(&d, a, NULL, 2, &count) == DINE_NO_SPACE);
+    found[0] = nobody;
+    CHECK(dine_blockers_of(&d, a, found, 2, &count) == DINE_DONE && count == 1 && found[0].slot == b.slot && found[0].born == b.born);
+    CHECK(dine_blockers_of(&d, b, found, 2, &count) == DINE_DONE && count == 0);
+    CHECK(dine_who_is_ready(&d, NULL, 0, &count) == DINE_DONE && count == 0);
     CHECK(dine_withdraw(&d, a) == DINE_DONE && dine_state_of(&d, a) == DINE_IS_THINKING);
     CHECK(dine_finish(&d, b) == DINE_DONE && dine_clock(&d) == 3);
+    CHECK(dine_hungry(&d, b) == DINE_DONE && dine_who_is_ready(&d, NULL, 2, &count) == DINE_NO_SPACE && count == 1);
+    CHECK(dine_who_is_ready(&d, found, 2, NULL) == DINE_DONE && found[0].slot == b.slot && found[0].born == b.born);
+    CHECK(dine_withdraw(&d, b) == DINE_DONE);
     CHECK(dine_separate(&d, b, a) == DINE_DONE && dine_leave(&d, a) == DINE_DONE && dine_leave(&d, a) == DINE_UNKNOWN);
     dine_end(&d);
 }

@@ -69,21 +69,43 @@ public:
     // The tasks that a task is in conflict with, in the order in which the conflicts were declared.
     std::vector<Task> neighbours(Task task)
     {
-        std::size_t count = 0;
-        std::vector<Task> found;
-        std::uint32_t answer = dine_neighbours_of(&handle_, task, nullptr, 0, &count);
-        if (answer == DINE_NO_SPACE) {
-            found.resize(count);
-            answer = dine_neighbours_of(&handle_, task, found.data(), found.size(), &count);
-        }
-        accepted(answer);
-        return found;
+        return listed([&](Task *found, std::size_t room, std::size_t *count) {
+            return dine_neighbours_of(&handle_, task, found, room, count);
+        });
+    }
+    // Those of these for which a hungry task waits: who eats, and who is hungry with an earlier last meal.
+    std::vector<Task> blockers(Task task)
+    {
+        return listed([&](Task *found, std::size_t room, std::size_t *count) {
+            return dine_blockers_of(&handle_, task, found, room, count);
+        });
+    }
+    // All ready tasks, the one with the earliest last meal first.
+    std::vector<Task> ready()
+    {
+        return listed([&](Task *found, std::size_t room, std::size_t *count) {
+            return dine_who_is_ready(&handle_, found, room, count);
+        });
     }
     // Whether one more conflict has room.
     bool has_room() { return dine_is_open(&handle_) && dine_has_room(&handle_); }
 
 private:
     static bool accepted(std::uint32_t answer) { return answer == DINE_DONE ? true : throw Refused(answer); }
+
+    // The tasks that a call lists, which is asked first how many there are.
+    template <typename List> static std::vector<Task> listed(List list)
+    {
+        std::size_t count = 0;
+        std::vector<Task> found;
+        std::uint32_t answer = list(nullptr, 0, &count);
+        if (answer == DINE_NO_SPACE) {
+            found.resize(count);
+            answer = list(found.data(), found.size(), &count);
+        }
+        accepted(answer);
+        return found;
+    }
 
     dine handle_ = DINE_CLOSED;
 };

@@ -50,13 +50,16 @@ static void answers_by_its_calls()
     check(arbiter.is_ready(b) && arbiter.next_ready()->slot == b.slot, "b is ready");
     check(arbiter.begin(b) && arbiter.state(b) == DINE_IS_EATING, "b eats");
     arbiter.hungry(a);
-    check(!arbiter.begin(a) && !arbiter.next_ready(), "a waits");
-    arbiter.withdraw(a);
+    check(!arbiter.begin(a) && !arbiter.next_ready() && arbiter.ready().empty(), "a waits");
+    check(arbiter.blockers(a).size() == 1 && arbiter.blockers(a)[0].slot == b.slot && arbiter.blockers(b).empty(), "a waits for b");
     arbiter.finish(b);
+    check(arbiter.ready().size() == 1 && arbiter.ready()[0].slot == a.slot && arbiter.blockers(a).empty(), "a may begin then");
+    arbiter.withdraw(a);
     arbiter.separate(a, b);
     arbiter.leave(a);
     check(arbiter.state(a) == DINE_IS_ABSENT, "a is gone");
     check(refusal_of([&] { arbiter.neighbours(a); }) == DINE_UNKNOWN, "who is gone has no neighbours");
+    check(refusal_of([&] { arbiter.blockers(a); }) == DINE_UNKNOWN, "who is gone waits for nobody");
     arbiter = Arbiter(1, 1);
     check(arbiter.state(b) == DINE_IS_ABSENT, "another arbiter is in its place");
 }

@@ -7,7 +7,6 @@ import unittest
 
 import dine
 from dine import Answer, Arbiter, Broker, Call, Refused, State, Task
-from recipes.waits import WatchedArbiter
 
 
 class Calls(unittest.TestCase):
@@ -33,9 +32,12 @@ class Calls(unittest.TestCase):
             arbiter.hungry(a)
             self.assertFalse(arbiter.begin(a))
             self.assertIsNone(arbiter.next_ready())
-            arbiter.withdraw(a)
+            arbiter.hungry(c)
+            self.assertEqual((arbiter.blockers(a), arbiter.blockers(b), arbiter.ready()), ([b], [], [c]))
             arbiter.finish(b)
             self.assertEqual((arbiter.clock(), arbiter.messages() <= 1), (4, True))
+            self.assertEqual((arbiter.blockers(a), arbiter.ready()), ([], [a, c]))
+            arbiter.withdraw(a)
             arbiter.separate(b, a)
             arbiter.leave(a)
             self.assertIs(arbiter.state(a), State.ABSENT)
@@ -50,6 +52,7 @@ class Calls(unittest.TestCase):
         self.refused(Answer.UNKNOWN, arbiter.hungry, Task(1 << 32, 0))
         self.refused(Answer.UNKNOWN, arbiter.hungry, Task(-1, 0))
         self.refused(Answer.UNKNOWN, arbiter.neighbours, Task(7, 7))
+        self.refused(Answer.UNKNOWN, arbiter.blockers, Task(7, 7))
         self.refused(Answer.SAME, arbiter.conflict, a, a)
         self.refused(Answer.APART, arbiter.separate, a, b)
         self.refused(Answer.WRONG_STATE, arbiter.finish, a)
@@ -161,10 +164,13 @@ class Meals(unittest.TestCase):
 
 
 class Waits(unittest.TestCase):
-    def test_a_hungry_task_waits_exactly_if_somebody_keeps_it(self):
+    def test_a_hungry_task_waits_for_who_eats_and_for_who_ate_earlier(self):
         drawn, waited = random.Random(3), 0
-        arbiter = WatchedArbiter()
-        tasks = [arbiter.join() for _ in range(8)]
+        arbiter, last = Arbiter(), {}
+        for _ in range(8):
+            task = arbiter.join()
+            last[task] = arbiter.clock()
+        tasks = list(last)
         for one, other in itertools.combinations(tasks, 2):
             if drawn.random() < 0.4:
                 arbiter.conflict(one, other)
@@ -174,14 +180,21 @@ class Waits(unittest.TestCase):
                 arbiter.hungry(task)
             elif arbiter.state(task) is State.EATING:
                 arbiter.finish(task)
+                last[task] = arbiter.clock()
             elif drawn.random() < 0.8:
                 arbiter.begin(task)
             else:
                 arbiter.withdraw(task)
-            for hungry in (it for it in tasks if arbiter.state(it) is State.HUNGRY):
-                keepers = arbiter.waits_for(hungry)
-                self.assertEqual(arbiter.is_ready(hungry), not keepers)
+            hungry = [it for it in tasks if arbiter.state(it) is State.HUNGRY]
+            for it in hungry:
+                keepers = [
+                    other
+                    for other in arbiter.neighbours(it)
+                    if arbiter.state(other) is State.EATING or (other in hungry and last[other] < last[it])
+                ]
+                self.assertEqual(arbiter.blockers(it), keepers)
                 waited += bool(keepers)
+            self.assertEqual(arbiter.ready(), sorted(filter(arbiter.is_ready, hungry), key=last.get))
         self.assertGreater(waited, 1000)
 
 

@@ -1,34 +1,18 @@
 -- What the parts of an arbiter tell of what it is seen as, and what an accepted call leaves.
-use Rattle.std.proofs.Common.{◌≡◌, ℕ, zero, suc, ◌+◌, ◌<◌, true, not, List, [], ◌∷◌, length, get_or, set, map, replicate, Option, Some, None, IsSome, refl, sym, ap, ◌∙◌, subst, arith, get_or-set_same, eqb, inl, inr}
-use Rattle.std.proofs.lemmas.Bool.{cases_Bool, eq-eqb, ne_eqb}
-use Rattle.std.specs.List.{filter, list_all}
-use Rattle.std.specs.Option.{option_map}
-use Rattle.std.proofs.Math.ListN.{length-replicate}
+use Rattle.dine_arbiter.proofs.Words.{◌≡◌, ℕ, zero, suc, ◌+◌, ◌*◌, ◌<◌, true, not, List, [], ◌∷◌, length, get_or, map, replicate, Option, Some, None, IsSome, is_some, refl, sym, ap, ◌∙◌, subst, arith, eqb, inl, inr, cases_Bool, eq-eqb, ne_eqb, filter, list_all, sum_by, length-replicate, Refusal, Refused, Limits, Table, same_task, state_of, are_in_conflict, is_ready, neighbours_of, stands_before, has_no_room, refusal_of, refusal_unless, newcomer, found, or_else-None, ready_if, same_task-refl, same_task-true, sound_at_opening, is_met_at, walked_at, count_in, has_dirty_pair, has_token_alone, settles, Task, State, Thinking, Hungry, Eating, Seat, ArePlaced, seat_state, seats_last, seats_put, state_at, state_in_seat, first_free, stands_before_at, MayLink, withdrawal_messages_of, withdrawn_at, ForkId, ForkRecord, conflict_of, neighbour_at, fork_of_new, messages_of_new, Arbiter, CarriesOut, IsKeptArbiter, forks_of, slots_of, Call, IsSound, ForksAgree}
 use Rattle.dine_words.specs.declared.call.Call.TheVariants as call
-use Rattle.dine_words.specs.declared.call.Refusal.{Refusal}
-use Rattle.dine_words.specs.declared.call.Reply.TheVariants.{Refused}
-use Rattle.dine_words.specs.declared.limits.Limits.{Limits}
-use Rattle.dine_table.specs.Table.{Table, same_task, state_of, are_in_conflict, is_ready, neighbours_of, next_ready_of, stands_before}
-use Rattle.dine_table.specs.Calls.{has_no_room, refusal_of, refusal_unless, newcomer}
-use Rattle.dine_table.proofs.CallerLemmas.{found, or_else-None, ready_if, same_task-refl, same_task-true, sound_at_opening}
 use Rattle.dine_forks.specs.Book.{ForkBook, empty_book, are_joined, holds, slot_list, with_record, is_between as is_between_slots, ends_of}
-use Rattle.dine_forks.specs.Held.{given_up_at, is_asked_of}
-use Rattle.dine_arbiter.specs.Seats.{Task, State, Thinking, Hungry, Eating, Seat, ArePlaced, seats_last, state_at, state_in_seat, state_of_seat, first_free, stands_before_at}
-use Rattle.dine_arbiter.specs.Records.{MayLink, ForkId, ForkRecord, conflict_of, neighbour_at, fork_of_new, messages_of_new}
-use Rattle.dine_arbiter.proofs.SlotEdges.{is_lawful_beside}
-use Rattle.dine_arbiter.specs.Arbitration.{Arbiter, CarriesOut, IsKeptArbiter, forks_of, slots_of}
-use Rattle.dine_arbiter.proofs.Earliest.{earliest_from, earliest-ready}
+use Rattle.dine_forks.specs.declared.rules.Reach.TheVariants as within
 use Rattle.dine_arbiter.proofs.Seated.{placed_seat}
-use Rattle.dine_arbiter.proofs.Seating.{slot-task_at, neighbours_in-records}
-use Rattle.dine_arbiter.proofs.Kept.{Carried, IsKeptIn, book_with, seated, in_range, carried-finish, seen, table_in, has_seat, has_slot, state_of-table_of, ready-holds_all}
+use Rattle.dine_arbiter.proofs.Seating.{in_range, seated, slot-task_at, neighbours_in-records}
+use Rattle.dine_arbiter.proofs.Kept.{Carried, IsKeptIn, book_with, lawful_in, seen, table_in, has_seat, state_of-table_of}
 use Rattle.dine_arbiter.specs.declared.arbiter.Arbiter.TheInside.{Inside}
-use Rattle.dine_words.specs.declared.call.Call.{Call}
-use Rattle.dine_arbiter.proofs.SlotWalks.{gives_up}
-use Rattle.dine_arbiter.proofs.Lawful.{lawful-around, slots-differ, state-seated}
-use Rattle.dine_arbiter.proofs.Members.{newcomer-is, free_seat, carried-join}
+use Rattle.dine_arbiter.proofs.SlotWalks.{settling_cost, walk_costs, hunger-reckoned, finish-reckoned, withdrawal-reckoned, all_met, finish_meets, hunger_meets}
+use Rattle.dine_arbiter.proofs.Lawful.{slots-differ}
+use Rattle.dine_arbiter.proofs.Members.{newcomer-is, free_seat, carried-join, full-is, joined-is, slots_differ, carried-separate, carried-conflict}
 use Rattle.dine_arbiter.proofs.Stamps.{stands_before_at-is}
-use Rattle.dine_arbiter.proofs.Members.{full-is, joined-is, slots_differ, carried-separate, carried-conflict}
-use Rattle.dine_arbiter.proofs.Following.{conflict_tells, separate_tells}
+use Rattle.dine_arbiter.proofs.Agreement.{ready-holds}
+use Rattle.dine_arbiter.proofs.Following.{conflict_tells, early_passed, two_passed}
 
 -- ---- at the opening
 
@@ -101,9 +85,17 @@ module _ (a : Inside) {v : Arbiter} (is : seen a ≡ v) (kept : IsKeptIn a) wher
   pub seen_before : (u w : Task) → stands_before_at a.seats u w ≡ stands_before v.table.order u w
   seen_before u w = stands_before_at-is a.clock a.seats kept.placed kept.stamps_differ u w ∙ ap (λ (t : Table). stands_before t.order u w) table_is
 
+  -- the ends of the records are the slots of the conflicts
+  pub seen_ends : map ends_of a.book.records ≡ map slots_of v.table.conflicts
+  seen_ends = go a.book.records ∙ ap (λ (t : Table). map slots_of t.conflicts) table_is
+    where
+      go : (rs : List ForkRecord) → map ends_of rs ≡ map slots_of (map (conflict_of a.seats) rs)
+      go [] = refl
+      go (r ∷ rs) = rw (slot-task_at a.clock a.seats r.first kept.placed, slot-task_at a.clock a.seats r.second kept.placed, go rs) refl
+
   -- a hungry task is ready where its slot holds all of its forks
   pub seen_ready : (u : Task) → state_of v.table u ≡ Some Hungry → list_all (holds u.slot) (slot_list u.slot a.book.records) ≡ is_ready v.table u
-  seen_ready u h = ready-holds_all a kept u (state_inside u Hungry h) ∙ ap (λ t. is_ready t u) table_is
+  seen_ready u h = sym (ready-holds v.table (subst IsSound table_is kept.sound) u (ap is_some h) h a.book.records (forks_of a.book.records) seen_ends refl (subst (λ t. ForksAgree t (forks_of a.book.records)) table_is kept.agree))
 
   -- the first free seat and the clock name the next task
   pub seen_newcomer : record { slot = first_free a.seats; born = a.clock } ≡ newcomer v.table
@@ -126,18 +118,6 @@ module _ (a : Inside) {v : Arbiter} (is : seen a ≡ v) (kept : IsKeptIn a) wher
       let (y, at, is_u) = has_seat a kept u x (state_inside u x h) in
       sym (neighbours_in-records a.clock a.seats u y kept.placed at is_u a.book.records) ∙ ap (λ t. neighbours_of t u) table_is
 
-  -- the earliest seat of a ready task has the one that comes first
-  pub seen_next : option_map (λ (s : Seat). s.diner.task) (earliest_from (is_ready v.table) None a.seats) ≡ next_ready_of v.table
-  seen_next = subst (λ t. option_map (λ (s : Seat). s.diner.task) (earliest_from (is_ready t) None a.seats) ≡ next_ready_of t) table_is (earliest-ready (is_ready (table_in a)) a.clock a.seats kept.placed)
-
-  -- the ends of the records are the slots of the conflicts
-  pub seen_ends : map ends_of a.book.records ≡ map slots_of v.table.conflicts
-  seen_ends = go a.book.records ∙ ap (λ (t : Table). map slots_of t.conflicts) table_is
-    where
-      go : (rs : List ForkRecord) → map ends_of rs ≡ map slots_of (map (conflict_of a.seats) rs)
-      go [] = refl
-      go (r ∷ rs) = rw (slot-task_at a.clock a.seats r.first kept.placed, slot-task_at a.clock a.seats r.second kept.placed, go rs) refl
-
   -- a task in a state has its seat
   pub seated_in : (u : Task) (x : State) → refusal_unless x (state_of v.table u) ≡ None → state_at a.seats u ≡ Some x
   seated_in u x h = seen_state u ∙ found x (state_of v.table u) h
@@ -146,15 +126,14 @@ module _ (a : Inside) {v : Arbiter} (is : seen a ≡ v) (kept : IsKeptIn a) wher
   pub seated_begin : (u : Task) → refusal_of v.table (call.Begin u) ≡ None → state_at a.seats u ≡ Some Hungry
   seated_begin u h = seated_in u Hungry (or_else-None (refusal_unless Hungry (state_of v.table u)) _ h).0
 
-  -- the edges of a task are lawful by the state that it has, also once its seat is another
-  pub lawful_in : (u : Task) (x : State) (o : Option Seat) → state_at a.seats u ≡ Some x → list_all (is_lawful_beside x (set a.seats u.slot o) u.slot) (slot_list u.slot a.book.records) ≡ true
-  lawful_in u x o h = lawful-around a.clock a.seats u.slot o x kept.placed (state-seated a.seats u x h) a.book.records (slots-differ a.seats a.book.records kept.sound.ends_differ) kept.agree
-
   -- ---- slots in range
 
   -- whoever is present has a seat, and a slot of the book
   pub reach : (u : Task) (x : State) → state_of v.table u ≡ Some x → (u.slot < length a.seats) × (u.slot < a.book.slots)
-  reach u x h = has_slot a kept u x (state_inside u x h)
+  reach u x h =
+      let (y, at, _) = has_seat a kept u x (state_inside u x h) in
+      let below = in_range a.seats u.slot y at in let seats_of = kept.seat_for_each_slot in let slots_of = kept.slots_of_book in
+      (below, omega arith)
 
   -- and so has whoever isn't refused
   pub reach_in : (u : Task) (x : State) → refusal_unless x (state_of v.table u) ≡ None → (u.slot < length a.seats) × (u.slot < a.book.slots)
@@ -169,12 +148,6 @@ module _ (a : Inside) {v : Arbiter} (is : seen a ≡ v) (kept : IsKeptIn a) wher
   holds_begin u h =
       let parts = or_else-None (refusal_unless Hungry (state_of v.table u)) _ h in
       seen_ready u (found Hungry (state_of v.table u) parts.0) ∙ ready_if (is_ready v.table u) parts.1
-
-  -- two tasks whose conflict ends have slots of the book
-  pub reach_separate : (u w : Task) → refusal_of v.table (call.Separate u w) ≡ None → (u.slot < a.book.slots) × (w.slot < a.book.slots)
-  reach_separate u w h =
-      let (x, y, hu, hw) = separate_tells v.table u w h in
-      ((reach u x hu).1, (reach w y hw).1)
 
   -- whoever joins has a seat
   pub reach_join : refusal_of v.table call.Join ≡ None → (first_free a.seats < length a.seats) × (a.present < a.limits.tasks)
@@ -198,16 +171,28 @@ module _ (a : Inside) {v : Arbiter} (is : seen a ≡ v) (kept : IsKeptIn a) wher
 
   -- ---- calls that tell more of their tasks
 
-  -- once a task has eaten, its edges come to rest as it gives up its forks
-  pub after_finish : (u : Task) → refusal_of v.table (call.Finish u) ≡ None
-      → Carried v (call.Finish u) (seats_last u a.clock a.seats) a.present (book_with a (map (given_up_at u.slot) a.book.records)) (a.clock + 1) a.limits (length (filter (is_asked_of u.slot) a.book.records))
-  after_finish u accepted =
-      let seat : Seat = record { diner = record { task = u; state = Thinking }; stamp = a.clock } in
-      let eats = seated_in u Eating accepted in
-      let (x, at, _) = seated a.seats u Eating eats in
-      let thinks = ap state_of_seat (get_or-set_same a.seats u.slot (Some seat) None (in_range a.seats u.slot x at)) in
-      let gives = gives_up (seats_last u a.clock a.seats) u.slot thinks a.book.records (slots-differ a.seats a.book.records kept.sound.ends_differ) (lawful_in u Eating (Some seat) eats) in
-      rw (gives.0, gives.1) (left (carried-finish a kept u) accepted)
+  -- the forks that it lacks are such as it asks for
+  pub met_hunger : (u : Task) → refusal_of v.table (call.Hungry u) ≡ None → list_all (is_met_at within.Lacked has_token_alone u.slot) (slot_list u.slot a.book.records) ≡ true
+  met_hunger u accepted = all_met within.Lacked Thinking has_token_alone hunger_meets _ u.slot (slot_list u.slot a.book.records) (lawful_in a kept u Thinking None (seated_in u Thinking accepted))
+
+  -- and those that one who has eaten is asked for are such as it gives up
+  pub met_finish : (u : Task) → refusal_of v.table (call.Finish u) ≡ None → list_all (is_met_at within.Asked has_dirty_pair u.slot) (slot_list u.slot a.book.records) ≡ true
+  met_finish u accepted = all_met within.Asked Eating has_dirty_pair finish_meets _ u.slot (slot_list u.slot a.book.records) (lawful_in a kept u Eating None (seated_in u Eating accepted))
+
+  -- what the counts of a slot tell of the messages of a hunger
+  pub told_hunger : (u : Task) → refusal_of v.table (call.Hungry u) ≡ None → let new = seats_put Hungry u a.seats in let after = map (walked_at within.Lacked (settles Hungry (seat_state new)) u.slot) a.book.records in
+      2 * (count_in a.book.records u.slot).lacked + (count_in after u.slot).asked ≡ sum_by (walk_costs within.Lacked (settling_cost Hungry (seat_state new)) u.slot) (slot_list u.slot a.book.records) + (count_in after u.slot).lacked + (count_in a.book.records u.slot).asked
+  told_hunger u accepted = hunger-reckoned _ u.slot a.book.records (slots-differ a.seats a.book.records kept.sound.ends_differ) (lawful_in a kept u Thinking _ (seated_in u Thinking accepted))
+
+  -- of a meal's end
+  pub told_finish : (u : Task) → refusal_of v.table (call.Finish u) ≡ None → let new = seats_last u a.clock a.seats in
+      (count_in a.book.records u.slot).asked ≡ sum_by (walk_costs within.Asked (settling_cost Thinking (seat_state new)) u.slot) (slot_list u.slot a.book.records)
+  told_finish u accepted = finish-reckoned _ u.slot a.book.records (slots-differ a.seats a.book.records kept.sound.ends_differ) (lawful_in a kept u Eating (Some record { diner = record { task = u; state = Thinking }; stamp = a.clock }) (seated_in u Eating accepted))
+
+  -- and of a withdrawal
+  pub told_withdrawal : (u : Task) → refusal_of v.table (call.Withdraw u) ≡ None → let after = map (withdrawn_at u.slot) a.book.records in
+      2 * (count_in after u.slot).lacked + (count_in after u.slot).asked ≡ sum_by (withdrawal_messages_of u.slot) (slot_list u.slot a.book.records) + (count_in a.book.records u.slot).lacked + (count_in a.book.records u.slot).asked
+  told_withdrawal u accepted = withdrawal-reckoned _ u.slot a.book.records (slots-differ a.seats a.book.records kept.sound.ends_differ) (lawful_in a kept u Hungry None (seated_in u Hungry accepted))
 
   -- what is left once a task has joined
   pub after_join : (u : Task) → u ≡ newcomer v.table → refusal_of v.table call.Join ≡ None
@@ -218,7 +203,7 @@ module _ (a : Inside) {v : Arbiter} (is : seen a ≡ v) (kept : IsKeptIn a) wher
   pub after_separate : (u w : Task) → refusal_of v.table (call.Separate u w) ≡ None
       → Carried v (call.Separate u w) a.seats a.present (book_with a (filter (λ r. not (is_between_slots u.slot w.slot r)) a.book.records)) a.clock a.limits 0
   after_separate u w h =
-      let (x, y, hu, hw) = separate_tells v.table u w h in
+      let (x, y, hu, hw, _) = two_passed v.table u w (early_passed v.table (call.Separate u w) h) in
       left (carried-separate a kept u w x y (state_inside u x hu) (state_inside w y hw)) h
 
   -- a refused call leaves all but the messages

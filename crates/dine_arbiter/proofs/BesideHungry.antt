@@ -1,82 +1,47 @@
 -- Whether somebody is hungry beside a task: nobody where nobody is hungry at all, and else the walk over the records of its slot
 -- finds who is.
-use Rattle.std.proofs.Common.{◌≡◌, ℕ, zero, suc, Bool, false, not, cond, eqb, List, [], ◌∷◌, Option, refl, arith, true, ◌||◌, map, get_or, Some, None, is_some, sym, ap, ◌∙◌}
-use Rattle.std.proofs.lemmas.Bool.Decides.{nat_tests}
-use Rattle.std.specs.List.{list_any, count_by}
-use Rattle.std.proofs.lemmas.Bool.{or_parts}
-use Rattle.std.proofs.lemmas.List.Sums.{sum_by-cons}
-use Rattle.dine_forks.specs.Book.{other_end, slot_list}
-use Rattle.dine_arbiter.specs.Records.{ForkRecord, neighbour_at}
-use Rattle.dine_arbiter.specs.Seats.{Seat, state_of_seat, seat_state, Task, State, Hungry, Diner, by_stamp, ArePlaced, task_at, state_in_seat, task_in_seat}
-use Rattle.dine_arbiter.specs.Hunger.{is_hungry, is_anyone_hungry, is_hungry_beside, has_hungry_neighbour}
-use Rattle.dine_table.specs.Table.{Table, same_task, same_state, is_found, is_in, state_in, state_of, neighbours_in, neighbours_of}
-use Rattle.dine_table.specs.Sound.{EndsPresent}
-use Rattle.dine_table.proofs.CallerLemmas.{same_task-refl, same_task-true}
-use Rattle.dine_arbiter.specs.Arbitration.{Arbiter}
+use Rattle.dine_arbiter.proofs.Words.{◌≡◌, ℕ, ◌≤◌, ◌/◌, false, List, [], ◌∷◌, length, Option, inl, inr, refl, arith, map, get_or, Some, None, sym, ap, ◌∙◌, list_any, bit_at, get_or-map, cases_lt, get_or_past, length-map, bit_at-zero, AreWords, other_end, slot_list, ForkRecord, neighbour_at, Seat, state_of_seat, seat_state, Task, State, Thinking, Hungry, Diner, by_stamp, ArePlaced, task_at, state_in_seat, task_in_seat, hungry_slots, is_hungry, is_hungry_beside, has_hungry_neighbour, Table, is_found, is_in, state_in, state_of, neighbours_in, neighbours_of, EndsPresent, same_task-refl, same_task-true, Arbiter}
 use Rattle.dine_arbiter.proofs.Seating.{state_at_slot}
-use Rattle.dine_arbiter.specs.Edge.{same_bool}
-use Rattle.dine_arbiter.proofs.Settling.{each_edge, same_bool-true}
 use Rattle.dine_arbiter.proofs.Kept.{IsKeptIn, seen, table_in}
 use Rattle.dine_arbiter.specs.declared.arbiter.Arbiter.TheInside.{Inside}
 use Rattle.dine_arbiter.proofs.After.{seen_neighbours, table_is}
 
--- ---- counts
-
--- what one adds to a count
-abbrev one_if : Bool → ℕ
-one_if b = cond b 1 0
-
--- somebody passes exactly where the count isn't 0
-pub any-counted : {X : Type 0} (p : X → Bool) (xs : List X) → not (eqb (count_by p xs) 0) ≡ list_any p xs
-any-counted p [] = refl
-any-counted p (x ∷ xs) = grind (arith, nat_tests, sum_by-cons (λ y. one_if (p y)) x xs, any-counted p xs)
-
--- where each fails, none passes
-none-any : {X : Type 0} (p : X → Bool) (xs : List X) → ((x : X) → p x ≡ false) → list_any p xs ≡ false
-none-any p [] none = refl
-none-any p (x ∷ xs) none = rw (none x) (none-any p xs none)
-
 -- ---- nobody is hungry
 
--- the task of no slot is hungry then
-calm_at : (seats : List (Option Seat)) (k : ℕ) → is_anyone_hungry seats ≡ false → is_hungry (seat_state seats k) ≡ false
-calm_at [] k calm = refl
-calm_at (x ∷ xs) zero calm = (or_parts (is_hungry (state_of_seat x)) (is_anyone_hungry xs) calm).0
-calm_at (x ∷ xs) (suc k) calm = calm_at xs k (or_parts (is_hungry (state_of_seat x)) (is_anyone_hungry xs) calm).1
-
--- no walk of a slot finds a hungry task
-pub calm_beside : (seats : List (Option Seat)) (slot : ℕ) (rs : List ForkRecord) → is_anyone_hungry seats ≡ false → list_any (is_hungry_beside seats slot) rs ≡ false
-calm_beside seats slot rs calm = none-any (is_hungry_beside seats slot) rs (λ r. calm_at seats (other_end slot r) calm)
+-- no walk of a slot finds a hungry task where no word of the set has one
+pub calm_beside : (seats : List (Option Seat)) (marks : ℕ) (slot : ℕ) (rs : List ForkRecord) → length seats ≤ 4096 → AreWords (hungry_slots seats) marks → marks ≡ 0 → list_any (is_hungry_beside seats slot) rs ≡ false
+calm_beside seats marks slot [] few words nobody = refl
+calm_beside seats marks slot (r ∷ rs) few words nobody = rw (calm (other_end slot r)) (calm_beside seats marks slot rs few words nobody)
+  where
+    calm : (k : ℕ) → is_hungry (seat_state seats k) ≡ false
+    calm k =
+        sym (ap is_hungry (get_or-map state_of_seat seats k None)) ∙ sym (get_or-map is_hungry (map state_of_seat seats) k Thinking)
+        ∙ elim (cases_lt k (length seats)) [
+          | inl below ↦ words.none (k / 64) (omega arith) (ap (λ n. bit_at n (k / 64)) nobody ∙ bit_at-zero (k / 64)) k (omega arith) (omega arith)
+          | inr behind ↦ get_or_past (hungry_slots seats) k false (rw (length-map (map state_of_seat seats) is_hungry, length-map seats state_of_seat) behind)
+        ]
 
 -- ---- the walk finds a hungry task where a neighbour is hungry
 
--- it doesn't matter which of two states is named first
-pub same_state-sym : (a b : State) → same_state a b ≡ same_state b a
-same_state-sym a b = same_bool-true _ _ (each_edge (λ _ x y _. same_bool (same_state x y) (same_state y x)) refl (record { at_first = true; dirty = true; token_first = true }) a b true)
-
 -- the task at a slot is hungry where its seat says so
-hungry-task_at : (clock : ℕ) (seats : List (Option Seat)) (s : ℕ) → ArePlaced clock 0 seats → is_in Hungry (by_stamp clock seats) (task_at seats s) ≡ same_state (seat_state seats s) Hungry
+hungry-task_at : (clock : ℕ) (seats : List (Option Seat)) (s : ℕ) → ArePlaced clock 0 seats → is_in Hungry (by_stamp clock seats) (task_at seats s) ≡ is_hungry (seat_state seats s)
 hungry-task_at clock seats s h =
     ap (is_found Hungry) (state_at_slot clock seats s h) ∙ go (get_or seats s None)
   where
-    go : (o : Option Seat) → is_found Hungry (state_in_seat (task_in_seat s o) o) ≡ same_state (state_of_seat o) Hungry
+    go : (o : Option Seat) → is_found Hungry (state_in_seat (task_in_seat s o) o) ≡ is_hungry (state_of_seat o)
     go None = refl
-    go (Some seat) = rw (same_task-refl seat.diner.task) (same_state-sym Hungry seat.diner.state)
+    go (Some seat) = rw (same_task-refl seat.diner.task) refl
 
 -- a hungry task beside a slot is a hungry neighbour
 hungry-neighbours : (clock : ℕ) (seats : List (Option Seat)) (slot : ℕ) → ArePlaced clock 0 seats → (rs : List ForkRecord) → list_any (is_hungry_beside seats slot) rs ≡ list_any (is_in Hungry (by_stamp clock seats)) (map (neighbour_at seats slot) rs)
 hungry-neighbours clock seats slot h [] = refl
 hungry-neighbours clock seats slot h (r ∷ rs) =
-    ap (λ b. b || list_any (is_hungry_beside seats slot) rs) (sym (hungry-task_at clock seats (other_end slot r) h))
-    ∙ ap (λ b. is_in Hungry (by_stamp clock seats) (neighbour_at seats slot r) || b) (hungry-neighbours clock seats slot h rs)
+    rw (hungry-task_at clock seats (other_end slot r) h, ← hungry-neighbours clock seats slot h rs) refl
 
 -- whoever is absent has no neighbours
 no_neighbours : (order : List Diner) (u : Task) (cs : List (Task × Task)) → state_in order u ≡ None → EndsPresent order cs → neighbours_in cs u ≡ []
 no_neighbours order u [] h present = refl
-no_neighbours order u (c ∷ cs) h present = rw (other c.0 present.0.0, other c.1 present.0.1) (no_neighbours order u cs h present.1)
-  where
-    other : (w : Task) → is_some (state_in order w) ≡ true → same_task u w ≡ false
-    other w some = grind (arith, same_task-true u w)
+no_neighbours order u (c ∷ cs) h present = grind (arith, same_task-true u c.0, same_task-true u c.1, no_neighbours order u cs h present.1)
 
 module _ (a : Inside) {v : Arbiter} (is : seen a ≡ v) (kept : IsKeptIn a) where
   -- a walk finds a hungry task where a neighbour is hungry

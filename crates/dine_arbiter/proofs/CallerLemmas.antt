@@ -3,4 +3,4 @@
 -- a walk over the records of a slot
 pub use Rattle.dine_arbiter.proofs.Walks.{read_on, shorter}
 -- whether a task is ready, by the forks of its slot
-pub use Rattle.dine_arbiter.proofs.Readiness.{ready-holds}
+pub use Rattle.dine_arbiter.proofs.Agreement.{ready-holds}

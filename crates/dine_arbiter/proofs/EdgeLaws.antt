@@ -1,20 +1,9 @@
 -- What an edge comes to when a state of its first end changes, found by trying all edges, and so all edges of a task that
 -- grows hungry or finishes. What the second end does is the same on the edge turned round.
 -- An edge agrees by three values: the states of its ends, and whether the first stands before the second.
-use Rattle.std.proofs.Common.{◌≡◌, ℕ, Bool, true, false, not, ◌&&◌, ◌||◌, cond, eqb, List, Option, Some, None, refl, ap, ◌∙◌, ◌+◌, [], ◌∷◌, is_some, IsTrue, inl, inr, sym, subst, arith}
-use Rattle.std.proofs.lemmas.Bool.{and_parts, eqb-true, cases_Bool, MatchBool-at_true, MatchBool-at_false}
-use Rattle.dine_table.specs.Table.{same_state, state_in, stands_before, same_task, is_in, has_end, neighbours_in, sooner, keeps_waiting}
-use Rattle.dine_table.specs.Messages.{hunger_cost, conflict_cost, withdrawal_cost}
-use Rattle.dine_forks.specs.Book.{dirtied}
-use Rattle.dine_arbiter.specs.Edge.{Task, State, Thinking, Hungry, Eating, Diner, Fork, Settles, SettlesAt, same_bool, agrees_at, agrees, messages_left, settled, withdrawn, withdrawal_messages, SettlesEnd, SettlesAround}
-use Rattle.dine_arbiter.specs.Forks.{new_fork}
-use Rattle.dine_arbiter.proofs.Settling.{each_edge, each_where, same_bool-true, same_fork, same_fork-true}
-use Rattle.dine_arbiter.proofs.Settling.{settled-is, settles_so, settles_by}
-use Rattle.std.specs.List.{AllZip, sum_by, count_by}
-use Rattle.std.proofs.lemmas.List.Sums.{sum_by-cons}
-use Rattle.dine_table.specs.Calls.{with_state, without, moved_last}
-use Rattle.dine_table.specs.Sound.{EndsDiffer}
-use Rattle.dine_table.proofs.CallerLemmas.{last-stands_before, same_task-refl, same_task-sym, same_task-true, stands_before-append, stands_before-other_way, stands_before-with_state, stands_before-without, state_in-append_other, state_in-append_same, state_in-with_state_other, state_in-with_state_same, state_in-without_other, state_in-without_same}
+use Rattle.dine_arbiter.proofs.Words.{◌≡◌, ℕ, Bool, true, false, not, ◌&&◌, ◌||◌, cond, eqb, List, Option, Some, None, refl, ap, ◌∙◌, ◌+◌, [], ◌∷◌, is_some, IsTrue, inl, inr, sym, subst, arith, and_parts, eqb-true, cases_Bool, MatchBool-at_true, MatchBool-at_false, same_state, state_in, stands_before, same_task, is_in, has_end, neighbours_in, sooner, keeps_waiting, hunger_cost, conflict_cost, withdrawal_cost, Fork, Settles, SettlesAt, same_bool, agrees_at, agrees, messages_left, settled, withdrawn, withdrawal_messages, SettlesEnd, SettlesAround, new_fork, AllZip, sum_by, count_by, sum_by-cons, with_state, without, moved_last, EndsDiffer, last-stands_before, same_task-refl, same_task-sym, same_task-true, stands_before-append, stands_before-other_way, stands_before-with_state, stands_before-without, state_in-append_other, state_in-append_same, state_in-with_state_other, state_in-with_state_same, state_in-without_other, state_in-without_same}
+use Rattle.dine_arbiter.specs.Edge.{Task, State, Thinking, Hungry, Eating, Diner}
+use Rattle.dine_arbiter.proofs.Settling.{each_edge, each_where, same_bool-true, same_fork, same_fork-true, settled-is, settles_so, settles_by}
 
 -- the first end's meal is sooner, by the states and the order
 abbrev pub sooner_at : State → State → Bool → Bool
@@ -44,18 +33,13 @@ pub turned-agrees : (f : Fork) (x y : State) (before : Bool) → agrees_by x y b
 turned-agrees = each_where (λ f x y s. agrees_by x y s f) (λ f x y s. agrees_by y x (not s) (turned f)) refl
 
 -- and settles as seen from there
-turned-settles : (f g : Fork) (x y : State) (n : ℕ) → Settles f x y g n → Settles (turned f) y x (turned g) n
+pub turned-settles_at : (o p : Option State) (f g : Fork) (n : ℕ) → SettlesAt o p f g n → SettlesAt p o (turned f) (turned g) n
 unfolding messages_left
-turned-settles f g x y n h =
+turned-settles_at (Some x) (Some y) f g n h =
     let (fork, count) = settled-is n f g x y h.reached h.quiet in
     rw (fork, count) (settles_by (turned f) (turned (settled f x y)) y x (messages_left f x y)
     (each_edge (λ f x y _. settles_so (turned f) y x (turned (settled f x y)) (messages_left f x y)) refl f x y true))
-
--- so where both ends are present
-pub turned-settles_at : (o p : Option State) (f g : Fork) (n : ℕ) → SettlesAt o p f g n → SettlesAt p o (turned f) (turned g) n
-turned-settles_at (Some x) (Some y) f g n h = turned-settles f g x y n h
-turned-settles_at None p f g n h = absurd h
-turned-settles_at (Some x) None f g n h = absurd h
+turned-settles_at o p f g n h = absurd h
 
 -- ---- the first end grows hungry, finishes, withdraws or begins
 
@@ -97,18 +81,7 @@ withdrawn-turned f =
     (λ f _ _ _. same_fork (withdrawn true (turned f)) (turned (withdrawn false f)) && eqb (withdrawal_messages true (turned f)) (withdrawal_messages false f)) refl f Thinking Thinking true) in
     (same_fork-true _ _ both.0, eqb-true _ _ both.1)
 
--- where the first end holds the fork and begins, the fork gets dirty
-pub agrees-begin : (y : State) (before : Bool) (f : Fork) → agrees_by Hungry y before f ≡ true → f.at_first ≡ true → agrees_by Eating y before (dirtied f) ≡ true
-agrees-begin y before f h held =
-    each_where (λ f _ y s. agrees_by Hungry y s f && f.at_first) (λ f _ y s. agrees_by Eating y s (dirtied f)) refl f y y before (rw (h, held) refl)
-
--- ---- who holds the fork, and a new conflict
-
--- a hungry end holds it exactly where the other doesn't keep it waiting
-pub agrees-held : (y : State) (before : Bool) (f : Fork) → agrees_by Hungry y before f ≡ true → f.at_first ≡ not (same_state Eating y || (same_state Hungry y && not before))
-agrees-held y before f h =
-    same_bool-true f.at_first _ (each_where (λ f _ y s. agrees_by Hungry y s f)
-    (λ f _ y s. same_bool f.at_first (not (same_state Eating y || (same_state Hungry y && not s)))) refl f y y before h)
+-- ---- a new conflict
 
 -- a new edge agrees, at this cost, between two who don't both eat
 pub agrees-new : (x y : State) (before : Bool) (g : Fork) (n : ℕ) → (same_state Eating x && same_state Eating y) ≡ false → Settles (new_fork (sooner_at x y before)) x y g n
@@ -123,14 +96,12 @@ agrees-new x y before g n h k =
 -- ---- one edge of an order
 
 -- the ends of an edge that agrees are present
-ends_some : (o p : Option State) (s : Bool) (f : Fork) → agrees_at o p s f ≡ true → (x y : State) × (o ≡ Some x) × (p ≡ Some y)
-ends_some None p s f h = absurd (let k : false ≡ true = h in cc)
-ends_some (Some x) None s f h = absurd (let k : false ≡ true = h in cc)
-ends_some (Some x) (Some y) s f h = (x, y, refl, refl)
-
--- so they are in an order
 pub ends_present : (order : List Diner) (a b : Task) (f : Fork) → agrees order (a, b) f ≡ true → (x y : State) × (state_in order a ≡ Some x) × (state_in order b ≡ Some y)
-ends_present order a b f h = ends_some (state_in order a) (state_in order b) (sooner order a b) f h
+ends_present order a b f h = go (state_in order a) (state_in order b) h
+  where
+    go : (o p : Option State) → agrees_at o p (sooner order a b) f ≡ true → (x y : State) × (o ≡ Some x) × (p ≡ Some y)
+    go (Some x) (Some y) h = (x, y, refl, refl)
+    go o p h = absurd (let k : false ≡ true = h in cc)
 
 -- an edge agrees as before where its ends have the states and the order of before
 pub agrees-same : (order order' : List Diner) (c : Task × Task) (f : Fork) → state_in order' c.0 ≡ state_in order c.0 → state_in order' c.1 ≡ state_in order c.1
@@ -218,13 +189,12 @@ module _ (u : Task) (order order' : List Diner) (cost : Task → ℕ)
       → AllZip (λ c f. IsTrue (agrees order' c f)) cs gs × (n ≡ sum_by cost (neighbours_in cs u))
   all_around [] [] [] n d h k = (tt, k)
   all_around [] [] (g ∷ gs) n d h k = absurd k
-  all_around [] (f ∷ fs) gs n d h k = absurd h
-  all_around (c ∷ cs) [] gs n d h k = absurd h
   all_around (c ∷ cs) (f ∷ fs) [] n d h k = absurd k
   all_around (c ∷ cs) (f ∷ fs) (g ∷ gs) n d h (m, k, sum, here, rest) =
       let one = goes_on c d.0 f g m h.0 here in
       let left = all_around cs fs gs k d.1 h.1 rest in
       ((one.0, left.0), sum ∙ ap (λ a. a + k) one.1 ∙ ap (λ b. at_other_end u cost c + b) left.1 ∙ sym (sum_by-neighbours_in u cost c cs))
+  all_around cs fs gs n d h k = absurd h
 
 -- when u grows hungry, all edges go on to agree, and this is what it costs
 pub forks-hungry : (order : List Diner) (u : Task) → state_in order u ≡ Some Thinking → (cs : List (Task × Task)) (fs gs : List Fork) (n : ℕ) → EndsDiffer cs
@@ -270,12 +240,13 @@ forks-finish order u hu =
 -- ---- who may begin
 
 -- of the fork to a neighbour u has exactly the one of which it isn't kept waiting
-pub holds-first : (order : List Diner) (u : Task) → state_in order u ≡ Some Hungry → (v : Task) (f : Fork) → same_task u v ≡ false → agrees order (u, v) f ≡ true → f.at_first ≡ not (keeps_waiting order u v)
-holds-first order u hu v f ne h =
+pub holds_first : (order : List Diner) (u : Task) → state_in order u ≡ Some Hungry → (v : Task) (f : Fork) → same_task u v ≡ false → agrees order (u, v) f ≡ true → f.at_first ≡ not (keeps_waiting order u v)
+holds_first order u hu v f ne h =
     let (y, hv, here) = seen_from order u v Hungry f hu h in
     let other_way = stands_before-other_way order u v ne (ap is_some hu) (ap is_some hv) in
-    agrees-held y (stands_before order u v) f here ∙ rw (hv, other_way) refl
+    same_bool-true f.at_first _ (each_where (λ f _ y s. agrees_by Hungry y s f)
+    (λ f _ y s. same_bool f.at_first (not (same_state Eating y || (same_state Hungry y && not s)))) refl f y y (stands_before order u v) here) ∙ rw (hv, other_way) refl
 
 -- so where u is the second end
-pub holds-second : (order : List Diner) (u : Task) → state_in order u ≡ Some Hungry → (v : Task) (f : Fork) → same_task v u ≡ false → agrees order (v, u) f ≡ true → not f.at_first ≡ not (keeps_waiting order u v)
-holds-second order u hu v f ne h = holds-first order u hu v (turned f) (same_task-sym u v ∙ ne) (agrees-turned order v u f ne h)
+pub holds_second : (order : List Diner) (u : Task) → state_in order u ≡ Some Hungry → (v : Task) (f : Fork) → same_task v u ≡ false → agrees order (v, u) f ≡ true → not f.at_first ≡ not (keeps_waiting order u v)
+holds_second order u hu v f ne h = holds_first order u hu v (turned f) (same_task-sym u v ∙ ne) (agrees-turned order v u f ne h)

@@ -1,24 +1,9 @@
 -- Each call keeps each fork in agreement with the order of last meals, and costs what the table says.
-use Rattle.std.proofs.Common.{◌≡◌, ℕ, true, false, not, ◌&&◌, if◌then◌else◌, List, Option, Some, None, inl, inr, refl, sym, ap, ◌∙◌, subst, arith, ◌≤◌, Bool, cond, is_none}
-use Rattle.std.proofs.lemmas.Bool.{cases_Bool}
-use Rattle.dine_words.specs.declared.call.Call.{Call}
+use Rattle.dine_arbiter.proofs.Words.{◌≡◌, ℕ, true, false, not, ◌&&◌, if◌then◌else◌, List, Option, Some, None, refl, sym, ap, ◌∙◌, subst, arith, ◌≤◌, Bool, Call, Refusal, Apart, Table, same_task, is_in, state_of, is_between, are_in_conflict, is_ready, neighbours_of, sooner, has_no_room, is_absent, or_else, refusal_unless, refusal_of, changed_by, table_after_call, newcomer, acceptance_of, reply_of, reply_unless, cost_of, cost_if_accepted, hunger_cost, conflict_cost, withdrawal_cost, Fork, ForksAgree, holds_all, EndsDiffer, IsSound, ChangesForks, ForksFollow, ChangesForksUnless, early_refusal_of, refusal_of_two, most_messages, found, newcomer_absent, or_else-None, present, ready_if, count_by-le-length, sum_by-le, Reply, Refused}
 use Rattle.dine_words.specs.declared.call.Call.TheVariants as call
-use Rattle.dine_words.specs.declared.call.Refusal.{Refusal}
-use Rattle.dine_words.specs.declared.call.Refusal.TheVariants.{Unknown, Apart}
-use Rattle.dine_table.specs.Table.{Table, same_task, is_in, state_of, is_between, are_in_conflict, is_ready, neighbours_of, sooner}
-use Rattle.dine_table.specs.Calls.{has_no_room, is_absent, or_else, refusal_unless, refusal_of, changed_by, table_after_call, newcomer}
-use Rattle.dine_table.specs.Messages.{cost_of, cost_if_accepted, hunger_cost, conflict_cost, withdrawal_cost}
-use Rattle.dine_arbiter.specs.Edge.{Task, State, Thinking, Hungry, Eating, Fork, ForksAgree, holds_all}
-use Rattle.dine_table.specs.Sound.{EndsDiffer, IsSound}
-use Rattle.dine_arbiter.specs.Forks.{ChangesForks, ForksFollow, ChangesForksUnless}
-use Rattle.dine_arbiter.specs.Arbitration.{early_refusal_of, refusal_of_two, most_messages}
-use Rattle.dine_table.proofs.CallerLemmas.{found, newcomer_absent, or_else-None, passed, present, ready_if}
+use Rattle.dine_arbiter.specs.Edge.{Task, State, Thinking, Hungry, Eating}
 use Rattle.dine_arbiter.proofs.EdgeLaws.{forks-hungry, forks-finish}
-use Rattle.dine_arbiter.proofs.Readiness.{holds_all-is}
-use Rattle.dine_arbiter.proofs.Agreement.{forks-begin, forks-withdraw, forks-join, forks-separate, forks-leave, forks-conflict}
-use Rattle.std.proofs.lemmas.List.Sums.{count_by-le-length}
-use Rattle.dine_arbiter.specs.Seats.{State, Thinking, Hungry, Eating}
-use Rattle.dine_forks.proofs.CallerLemmas.{sum_by-le}
+use Rattle.dine_arbiter.proofs.Agreement.{holds_all-is, forks-begin, forks-withdraw, forks-join, forks-left, forks-leave, forks-conflict}
 
 -- ---- what an accepted call on two tasks tells
 
@@ -30,60 +15,35 @@ conflict_tells t u v ok =
     let (y, hv) = present (state_of t v) is.1 in
     (x, y, hu, hv, is.2, is.3, is.4, is.5)
 
--- and one that ends has two tasks that are present
-pub separate_tells : (t : Table) (u v : Task) → refusal_of t (call.Separate u v) ≡ None → (x y : State) × (state_of t u ≡ Some x) × (state_of t v ≡ Some y)
-separate_tells t u v ok =
-    let p1 = passed (is_absent t u) Unknown _ ok in
-    let p2 = passed (is_absent t v) Unknown _ p1.1 in
-    let (x, hu) = present (state_of t u) p1.0 in
-    let (y, hv) = present (state_of t v) p2.0 in
-    (x, y, hu, hv)
-
 -- ---- what is asked before a conflict that is to end is looked for
 
 -- the end of a conflict is refused for what speaks against the two tasks, and else where they are apart
 separate-parts : (t : Table) (u v : Task) → refusal_of t (call.Separate u v) ≡ or_else (refusal_of_two t u v) (if are_in_conflict t u v then None else Some Apart)
-separate-parts t u v = elim (cases_Bool (is_absent t u)) [
-  | inl e ↦ rw e refl
-  | inr e ↦ elim (cases_Bool (is_absent t v)) [ inl f ↦ rw (e, f) refl | inr f ↦ elim (cases_Bool (same_task u v)) [ inl g ↦ rw (e, f, g) refl | inr g ↦ rw (e, f, g) refl ] ]
-]
+separate-parts t u v = grind arith
 
 -- what is refused early is refused
-pub early-refused : (t : Table) (c : Call) (r : Refusal) → early_refusal_of t c ≡ Some r → refusal_of t c ≡ Some r
-early-refused t (call.Separate u v) r h = separate-parts t u v ∙ ap (λ o. or_else o (if are_in_conflict t u v then None else Some Apart)) h
-early-refused t call.Join r h = h
-early-refused t (call.Leave u) r h = h
-early-refused t (call.Conflict u v) r h = h
-early-refused t (call.Hungry u) r h = h
-early-refused t (call.Begin u) r h = h
-early-refused t (call.Finish u) r h = h
-early-refused t (call.Withdraw u) r h = h
+pub early_refused : (t : Table) (c : Call) (r : Refusal) → early_refusal_of t c ≡ Some r → refusal_of t c ≡ Some r
+early_refused t (call.Separate u v) r h = separate-parts t u v ∙ ap (λ o. or_else o (if are_in_conflict t u v then None else Some Apart)) h
+early_refused t c r h = h
 
 -- what isn't refused isn't refused early
-pub early-passed : (t : Table) (c : Call) → refusal_of t c ≡ None → early_refusal_of t c ≡ None
-early-passed t (call.Separate u v) h = (or_else-None (refusal_of_two t u v) (if are_in_conflict t u v then None else Some Apart) (sym (separate-parts t u v) ∙ h)).0
-early-passed t call.Join h = h
-early-passed t (call.Leave u) h = h
-early-passed t (call.Conflict u v) h = h
-early-passed t (call.Hungry u) h = h
-early-passed t (call.Begin u) h = h
-early-passed t (call.Finish u) h = h
-early-passed t (call.Withdraw u) h = h
+pub early_passed : (t : Table) (c : Call) → refusal_of t c ≡ None → early_refusal_of t c ≡ None
+early_passed t (call.Separate u v) h = (or_else-None (refusal_of_two t u v) (if are_in_conflict t u v then None else Some Apart) (sym (separate-parts t u v) ∙ h)).0
+early_passed t c h = h
 
 -- where nothing speaks against the two tasks both are present, and whether they can be separated their conflict decides
 pub two_passed : (t : Table) (u v : Task) → refusal_of_two t u v ≡ None → (x y : State) × (state_of t u ≡ Some x) × (state_of t v ≡ Some y) × (refusal_of t (call.Separate u v) ≡ (if are_in_conflict t u v then None else Some Apart))
 two_passed t u v ok =
-    let p1 = passed (is_absent t u) Unknown _ ok in
-    let p2 = passed (is_absent t v) Unknown _ p1.1 in
-    let (x, hu) = present (state_of t u) p1.0 in
-    let (y, hv) = present (state_of t v) p2.0 in
+    let is : (is_absent t u ≡ false) × (is_absent t v ≡ false) = grind arith in
+    let (x, hu) = present (state_of t u) is.0 in
+    let (y, hv) = present (state_of t v) is.1 in
     (x, y, hu, hv, separate-parts t u v ∙ ap (λ o. or_else o (if are_in_conflict t u v then None else Some Apart)) ok)
 
 -- ---- one call
 
 -- begin is decided by forks alone: a hungry task holds all of its forks exactly where it is ready
-pub holds_all-is_ready : (t : Table) (u : Task) (forks : List Fork) → state_of t u ≡ Some Hungry → EndsDiffer t.conflicts → ForksAgree t forks → holds_all u t.conflicts forks ≡ is_ready t u
-holds_all-is_ready t u forks hu d h = holds_all-is t.order u hu t.conflicts forks d h ∙ sym (rw hu refl)
+pub holds_all_is_ready : (t : Table) (u : Task) (forks : List Fork) → state_of t u ≡ Some Hungry → EndsDiffer t.conflicts → ForksAgree t forks → holds_all u t.conflicts forks ≡ is_ready t u
+holds_all_is_ready t u forks hu d h = holds_all-is t.order u hu t.conflicts forks d h ∙ sym (rw hu refl)
 
 -- an accepted call keeps the forks in agreement, and costs what the table says
 accepted : (t : Table) (c : Call) (old new : List Fork) (n : ℕ) → refusal_of t c ≡ None → IsSound t → ForksAgree t old → ChangesForks t c old new n → ForksAgree (changed_by t c) new × (n ≡ cost_if_accepted t c)
@@ -96,14 +56,14 @@ accepted t (call.Conflict u v) old new n ok sound h (fork, same, settled) =
     let r = forks-conflict t.order u v x y hu hv not_both t.conflicts old fork n h settled in
     (subst (λ fs. ForksAgree (changed_by t (call.Conflict u v)) fs) (sym same) r.0, r.1)
 accepted t (call.Separate u v) old new n ok sound h (same, none) =
-    (subst (λ fs. ForksAgree (changed_by t (call.Separate u v)) fs) (sym same) (forks-separate t.order (λ c. not (is_between u v c)) t.conflicts old h), none)
+    (subst (λ fs. ForksAgree (changed_by t (call.Separate u v)) fs) (sym same) (forks-left t.order t.order (λ c. not (is_between u v c)) (λ c f left agree. agree) t.conflicts old h), none)
 accepted t (call.Hungry u) old new n ok sound h settled =
     forks-hungry t.order u (found Thinking (state_of t u) ok) t.conflicts old new n sound.ends_differ h settled
 accepted t (call.Begin u) old new n ok sound h (same, none) =
     let parts = or_else-None (refusal_unless Hungry (state_of t u)) _ ok in
     let hu = found Hungry (state_of t u) parts.0 in
     let ready : is_ready t u ≡ true = ready_if (is_ready t u) parts.1 in
-    (subst (λ fs. ForksAgree (changed_by t (call.Begin u)) fs) (sym same) (forks-begin t.order u hu t.conflicts old sound.ends_differ h (holds_all-is_ready t u old hu sound.ends_differ h ∙ ready)), none)
+    (subst (λ fs. ForksAgree (changed_by t (call.Begin u)) fs) (sym same) (forks-begin t.order u hu t.conflicts old sound.ends_differ h (holds_all_is_ready t u old hu sound.ends_differ h ∙ ready)), none)
 accepted t (call.Finish u) old new n ok sound h settled =
     forks-finish t.order u (found Eating (state_of t u) ok) t.conflicts old new n sound.ends_differ h settled
 accepted t (call.Withdraw u) old new n ok sound h (same, counted) =
@@ -120,46 +80,50 @@ forks_follow t c old new n sound h k = go (refusal_of t c) refl k
 
 -- ---- and none costs more messages than its task's conflicts allow
 
--- what is at most so much in both cases is
-either-le : (b : Bool) (m n most : ℕ) → m ≤ most → n ≤ most → cond b m n ≤ most
-either-le true m n most hm hn = hm
-either-le false m n most hm hn = hn
-
 -- hunger costs 3 messages at most on an edge
 hunger-le : (b : Bool) (o : Option State) → hunger_cost b o ≤ 3
-hunger-le b None = omega arith
-hunger-le b (Some Thinking) = either-le b 2 0 3 (omega arith) (omega arith)
-hunger-le b (Some Hungry) = either-le b 3 1 3 (omega arith) (omega arith)
-hunger-le b (Some Eating) = omega arith
+hunger-le b (Some Thinking) = grind arith
+hunger-le b o = grind arith
 
 -- a new edge costs 3 at most
 conflict-le : (o p : Option State) → conflict_cost o p ≤ 3
-conflict-le None p = omega arith
-conflict-le (Some Thinking) p = omega arith
-conflict-le (Some Eating) p = omega arith
-conflict-le (Some Hungry) None = omega arith
 conflict-le (Some Hungry) (Some Thinking) = omega arith
-conflict-le (Some Hungry) (Some Hungry) = omega arith
-conflict-le (Some Hungry) (Some Eating) = omega arith
+conflict-le o p = omega arith
 
 -- a withdrawal costs 2 at most on an edge
 withdrawal-le : (b : Bool) (o : Option State) → withdrawal_cost b o ≤ 2
-withdrawal-le b None = omega arith
-withdrawal-le b (Some Thinking) = either-le b 2 0 2 (omega arith) (omega arith)
-withdrawal-le b (Some Hungry) = omega arith
-withdrawal-le b (Some Eating) = omega arith
+withdrawal-le b (Some Thinking) = grind arith
+withdrawal-le b o = omega arith
 
 -- so an accepted call costs no more than its conflicts allow
 accepted-le : (t : Table) (c : Call) → cost_if_accepted t c ≤ most_messages t c
-accepted-le t call.Join = omega arith
-accepted-le t (call.Leave u) = omega arith
-accepted-le t (call.Conflict u v) = either-le (sooner t.order u v) (conflict_cost (state_of t u) (state_of t v)) (conflict_cost (state_of t v) (state_of t u)) 3 (conflict-le (state_of t u) (state_of t v)) (conflict-le (state_of t v) (state_of t u))
-accepted-le t (call.Separate u v) = omega arith
+accepted-le t (call.Conflict u v) = grind (arith, conflict-le (state_of t u) (state_of t v), conflict-le (state_of t v) (state_of t u))
 accepted-le t (call.Hungry u) = sum_by-le (λ v. hunger_cost (sooner t.order u v) (state_of t v)) 3 (neighbours_of t u) (λ v. hunger-le (sooner t.order u v) (state_of t v))
-accepted-le t (call.Begin u) = omega arith
 accepted-le t (call.Finish u) = count_by-le-length (λ v. is_in Hungry t.order v) (neighbours_of t u)
 accepted-le t (call.Withdraw u) = sum_by-le (λ v. withdrawal_cost (sooner t.order u v) (state_of t v)) 2 (neighbours_of t u) (λ v. withdrawal-le (sooner t.order u v) (state_of t v))
+accepted-le t c = omega arith
 
 -- and neither does any call
 pub cost_of-le : (t : Table) (c : Call) → cost_of t c ≤ most_messages t c
-cost_of-le t c = either-le (is_none (refusal_of t c)) (cost_if_accepted t c) 0 (most_messages t c) (accepted-le t c) (omega arith)
+cost_of-le t c = grind (arith, accepted-le t c)
+
+-- ---- what a reply tells of its refusal
+
+-- the refusal that a reply is
+abbrev pub refusal_in : Reply → Option Refusal
+refusal_in (Refused r) = Some r
+refusal_in reply = None
+
+-- an acceptance is no refusal
+acceptance_is_none : (t : Table) (c : Call) → refusal_in (acceptance_of t c) ≡ None
+acceptance_is_none t call.Join = refl
+acceptance_is_none t c = refl
+
+-- the reply is the refusal, if there is one
+unless_refused : (o : Option Refusal) (r : Reply) → refusal_in r ≡ None → refusal_in (reply_unless o r) ≡ o
+unless_refused None r accepted = accepted
+unless_refused (Some refusal) r accepted = refl
+
+-- what the reply to a call tells of its refusal is so
+pub told_refusal : (t : Table) (c : Call) (r : Reply) → r ≡ reply_of t c → refusal_in r ≡ refusal_of t c
+told_refusal t c r says = ap refusal_in says ∙ unless_refused (refusal_of t c) (acceptance_of t c) (acceptance_is_none t c)

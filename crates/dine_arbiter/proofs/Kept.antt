@@ -1,55 +1,16 @@
 -- What an accepted call leaves: an arbiter that keeps what it keeps, and the table that is next.
-use Rattle.std.proofs.Common.{◌≡◌, ℕ, zero, suc, ◌+◌, ◌<◌, true, List, [], ◌∷◌, length, get_or, map, Option, Some, None, is_some, inl, inr, refl, sym, ap, ◌∙◌, subst, arith, get_or-set_same, add-one, length-append}
-use Rattle.std.specs.List.{list_all, sum_by}
-use Rattle.std.proofs.lemmas.Bool.{cases_Bool}
-use Rattle.std.proofs.lemmas.List.{length-map}
-use Rattle.std.proofs.Math.ListN.{length-set}
-use Rattle.dine_words.specs.declared.call.Call.{Call}
+use Rattle.dine_arbiter.proofs.Words.{◌≡◌, ℕ, ◌+◌, ◌<◌, true, List, [], ◌∷◌, length, get_or, set, map, Option, Some, None, is_some, refl, sym, ap, ◌∙◌, subst, arith, get_or-set_same, add-one, length-append, sum_by, list_all, length-map, length-set, Call, Limits, Table, same_task, state_of, acceptance_of, refusal_of, refusal_unless, changed_by, table_after_call, diner_put_in, with_state, without, moved_last, EndsPresent, IsSound, diner_put_in-task, found, or_else-None, same_task-refl, same_task-true, sound_after_call, ForkBook, changed_where, is_end, slot_list, dirtied, dirtied_at, ForksAgree, SettlesAround, ChangesForks, Task, State, Thinking, Hungry, Eating, Diner, Seat, by_stamp, put_in_seat, seats_put, seats_last, state_at, state_of_seat, seat_state, task_in_seat, ArePlaced, StampsDiffer, ForkRecord, conflict_of, withdrawn_at, withdrawn_fork, withdrawal_messages_of, settles, walked_at, walked_fork, Reach, Arbiter, CarriesOut, IsKeptArbiter, table_of, forks_of}
 use Rattle.dine_words.specs.declared.call.Call.TheVariants as call
-use Rattle.dine_words.specs.declared.limits.Limits.{Limits}
-use Rattle.dine_table.specs.Table.{Table, same_task, state_of, is_ready}
-use Rattle.dine_table.specs.Calls.{acceptance_of, refusal_of, refusal_unless, changed_by, table_after_call, diner_put_in, with_state, without, moved_last}
-use Rattle.dine_table.specs.Sound.{EndsPresent, IsSound}
-use Rattle.dine_table.proofs.CallerLemmas.{diner_put_in-task, found, or_else-None, same_task-refl, same_task-true, sound_after_call}
 use Rattle.dine_arbiter.specs.declared.arbiter.Arbiter.TheInside.{Inside}
-use Rattle.dine_forks.specs.Book.{ForkBook, changed_where, is_end, holds, slot_list, dirtied}
-use Rattle.dine_forks.specs.Held.{dirtied_at}
-use Rattle.dine_arbiter.specs.Edge.{ForksAgree, SettlesAround}
-use Rattle.dine_arbiter.specs.Forks.{ChangesForks}
-use Rattle.dine_arbiter.specs.Seats.{Task, State, Thinking, Hungry, Eating, Diner, Seat, by_stamp, put_in_seat, seats_put, seats_last, state_in_seat, state_at, task_in_seat, ArePlaced, StampsDiffer}
-use Rattle.dine_arbiter.specs.Records.{Fork, ForkRecord, conflict_of, withdrawn_at, withdrawn_fork, withdrawal_messages_of}
-use Rattle.dine_arbiter.proofs.SlotEdges.{settled_fork, messages_of, settled_at}
-use Rattle.dine_arbiter.specs.Arbitration.{Arbiter, CarriesOut, IsKeptArbiter, table_of, forks_of}
-use Rattle.dine_arbiter.proofs.Following.{cost_of-le}
-use Rattle.dine_arbiter.proofs.Following.{forks_follow, holds_all-is_ready}
+use Rattle.dine_arbiter.specs.Records.{Fork}
+use Rattle.dine_arbiter.proofs.SlotEdges.{is_lawful_beside}
+use Rattle.dine_arbiter.proofs.SlotWalks.{Comes, finish_comes, hunger_comes, settling_cost, walk_costs}
+use Rattle.dine_arbiter.proofs.Lawful.{lawful-around, slots-differ, state-put, state-seated}
+use Rattle.dine_forks.specs.declared.rules.Reach.TheVariants as within
+use Rattle.dine_arbiter.proofs.Following.{cost_of-le, forks_follow}
 use Rattle.dine_arbiter.proofs.Seated.{placed_at, state_in-by_stamp, with_state-seats, moved_last-seats}
-use Rattle.dine_arbiter.proofs.Seating.{settles_around, holds_all-slot_list, dirtied_around-records, conflicts-changed, conflicts-set, task_in-put_in_seat, placed-put_in_seat, are_placed-set, placed_later}
-use Rattle.dine_arbiter.proofs.Seating.{withdrawn_around-records, withdrawal_messages-records}
-use Rattle.dine_arbiter.proofs.Stamps.{stamps-put, stamps-latest}
-use Rattle.dine_arbiter.proofs.Slots.{length-without}
-
--- ---- a task that is present has its seat
-
--- a task with a state is the task of its seat
-pub seated : (seats : List (Option Seat)) (u : Task) (s : State) → state_at seats u ≡ Some s → (x : Seat) × (get_or seats u.slot None ≡ Some x) × (same_task x.diner.task u ≡ true)
-seated seats u s h = go (get_or seats u.slot None) h
-  where
-    go : (o : Option Seat) → state_in_seat u o ≡ Some s → (x : Seat) × (o ≡ Some x) × (same_task x.diner.task u ≡ true)
-    go None k = absurd (let w : None ≡ Some s = k in cc)
-    go (Some x) k = elim (cases_Bool (same_task x.diner.task u)) [
-      | inl e ↦ (x, refl, e)
-      | inr e ↦ absurd (let w : None ≡ Some s = rw e at k in cc)
-    ]
-
--- a seat that is taken is one of the seats
-pub in_range : (seats : List (Option Seat)) (i : ℕ) (x : Seat) → get_or seats i None ≡ Some x → i < length seats
-in_range [] i x h = absurd (let w : None ≡ Some x = h in cc)
-in_range (o ∷ os) zero x h = omega arith
-in_range (o ∷ os) (suc i) x h = let below : i < length os = in_range os i x h in omega arith
-
--- the order with u last has one diner more than without u
-length-moved : (u : Task) (order : List Diner) → length (moved_last u order) ≡ length (without u order) + 1
-length-moved u order = length-append (without u order) (record { task = u; state = Thinking } ∷ [])
+use Rattle.dine_arbiter.proofs.Seating.{in_range, seated, settles_around, dirtied_around-records, conflicts-changed, conflicts-set, task_in-put_in_seat, placed-put_in_seat, are_placed-set, placed_later, withdrawn_around-records, withdrawal_messages-records}
+use Rattle.dine_arbiter.proofs.Stamps.{length-without, stamps-put, stamps-latest}
 
 -- ---- what is seen
 
@@ -126,30 +87,20 @@ module _ (a : Inside) (kept : IsKeptIn a) where
     pub has_seat : (s : State) → state_of (table_in a) u ≡ Some s → (x : Seat) × (get_or a.seats u.slot None ≡ Some x) × (same_task x.diner.task u ≡ true)
     has_seat s h = seated a.seats u s (sym state_of-table_of ∙ h)
 
-    -- and a slot of the book
-    pub has_slot : (s : State) → state_of (table_in a) u ≡ Some s → (u.slot < length a.seats) × (u.slot < a.book.slots)
-    has_slot s h =
-        let (x, at, same) = has_seat s h in
-        let below : u.slot < length a.seats = in_range a.seats u.slot x at in
-        let seats_of = kept.seat_for_each_slot in
-        let slots_of = kept.slots_of_book in
-        (below, omega arith)
-
-    -- a hungry task has all its forks exactly where it is ready
-    pub ready-holds_all : state_of (table_in a) u ≡ Some Hungry → list_all (holds u.slot) (slot_list u.slot a.book.records) ≡ is_ready (table_in a) u
-    ready-holds_all h =
-        let (x, at, same) = has_seat Hungry h in
-        sym (holds_all-slot_list a.clock a.seats u x kept.placed at same a.book.records)
-        ∙ holds_all-is_ready (table_in a) u (forks_of a.book.records) h kept.sound.ends_differ kept.agree
-
     -- ---- u gets another state
 
-    -- the records of u settle as its new seat tells, where the order and the conflicts are these
-    settles_in : (clock : ℕ) (new : List (Option Seat)) (order : List Diner) (x : Seat) → ArePlaced clock 0 new → get_or new u.slot None ≡ Some x → same_task x.diner.task u ≡ true
+    -- the edges of u are lawful by the state that it has, also once its seat is another
+    pub lawful_in : (x : State) (o : Option Seat) → state_at a.seats u ≡ Some x → list_all (is_lawful_beside x (set a.seats u.slot o) u.slot) (slot_list u.slot a.book.records) ≡ true
+    lawful_in x o h = lawful-around a.clock a.seats u.slot o x kept.placed (state-seated a.seats u x h) a.book.records (slots-differ a.seats a.book.records kept.sound.ends_differ) kept.agree
+
+    -- a walk settles the records of u as its new seat tells, where the order and the conflicts are these
+    settles_in : (r : Reach) (was own : State) → Comes r was own → (clock : ℕ) (o : Option Seat) (x : Seat) (order : List Diner) → let new = set a.seats u.slot o in
+        ArePlaced clock 0 new → get_or new u.slot None ≡ Some x → same_task x.diner.task u ≡ true → seat_state new u.slot ≡ own → state_at a.seats u ≡ Some was
         → by_stamp clock new ≡ order → map (conflict_of new) a.book.records ≡ map (conflict_of a.seats) a.book.records → EndsPresent order (map (conflict_of a.seats) a.book.records)
-        → SettlesAround u order (map (conflict_of a.seats) a.book.records) (forks_of a.book.records) (forks_of (map (settled_at new u.slot) a.book.records)) (sum_by (messages_of new) (slot_list u.slot a.book.records))
-    settles_in clock new order x placed at same is_order is_conflicts present =
-        rw (is_order, is_conflicts) at (settles_around clock new u x placed at same a.book.records (rw (is_order, is_conflicts) present))
+        → SettlesAround u order (map (conflict_of a.seats) a.book.records) (forks_of a.book.records) (forks_of (map (walked_at r (settles own (seat_state new)) u.slot) a.book.records))
+        (sum_by (walk_costs r (settling_cost own (seat_state new)) u.slot) (slot_list u.slot a.book.records))
+    settles_in r was own comes clock o x order placed at same here had is_order is_conflicts present =
+        rw (is_order, is_conflicts) at (settles_around clock (set a.seats u.slot o) u x placed at same r was own comes here a.book.records (rw (is_order, is_conflicts) present) (lawful_in was o had))
 
     module _ (s : State) (lt : u.slot < length a.seats) where
       -- u is in another state in the order
@@ -176,16 +127,17 @@ module _ (a : Inside) (kept : IsKeptIn a) where
           (length-set a.seats u.slot (put_in_seat s u (get_or a.seats u.slot None)))
 
     -- what is left once u has grown hungry
-    pub carried-hungry : refusal_of (table_in a) (call.Hungry u) ≡ None
-        → Carried (seen a) (call.Hungry u) (seats_put Hungry u a.seats) a.present (book_with a (map (settled_at (seats_put Hungry u a.seats) u.slot) a.book.records)) a.clock a.limits
-        (sum_by (messages_of (seats_put Hungry u a.seats)) (slot_list u.slot a.book.records))
+    pub carried-hungry : refusal_of (table_in a) (call.Hungry u) ≡ None → let new = seats_put Hungry u a.seats in
+        Carried (seen a) (call.Hungry u) new a.present (book_with a (map (walked_at within.Lacked (settles Hungry (seat_state new)) u.slot) a.book.records)) a.clock a.limits
+        (sum_by (walk_costs within.Lacked (settling_cost Hungry (seat_state new)) u.slot) (slot_list u.slot a.book.records))
     carried-hungry accepted =
-        let (x, at, is_u) = has_seat Thinking (found Thinking (state_of (table_in a) u) accepted) in
-        let lt = in_range a.seats u.slot x at in
-        let seat : Seat = record { diner = diner_put_in Hungry u x.diner; stamp = x.stamp } in
-        let here : get_or (seats_put Hungry u a.seats) u.slot None ≡ Some seat = get_or-set_same a.seats u.slot _ None lt ∙ ap (put_in_seat Hungry u) at in
-        carried-put Hungry lt (call.Hungry u) (settled_fork (seats_put Hungry u a.seats)) _ accepted refl
-        (settles_in a.clock (seats_put Hungry u a.seats) _ seat (placed-put Hungry lt) here (ap (λ w. same_task w u) (diner_put_in-task Hungry u x.diner) ∙ is_u) (order-put Hungry lt) (conflicts-put Hungry lt) (sound_after (call.Hungry u) accepted).ends_present)
+        let thinks : state_at a.seats u ≡ Some Thinking = sym state_of-table_of ∙ found Thinking (state_of (table_in a) u) accepted in
+        let (x, at, is_u) = seated a.seats u Thinking thinks in
+        let lt = in_range a.seats u.slot x at in let new = seats_put Hungry u a.seats in
+        let here = get_or-set_same a.seats u.slot (put_in_seat Hungry u (get_or a.seats u.slot None)) None lt ∙ ap (put_in_seat Hungry u) at in
+        carried-put Hungry lt (call.Hungry u) (walked_fork within.Lacked (settles Hungry (seat_state new)) u.slot) _ accepted refl
+        (settles_in within.Lacked Thinking Hungry hunger_comes a.clock _ _ _ (placed-put Hungry lt) here (ap (λ w. same_task w u) (diner_put_in-task Hungry u x.diner) ∙ is_u) (state-put a.seats u Thinking Hungry thinks) thinks
+        (order-put Hungry lt) (conflicts-put Hungry lt) (sound_after (call.Hungry u) accepted).ends_present)
 
     -- what is left once u has begun to eat
     pub carried-begin : refusal_of (table_in a) (call.Begin u) ≡ None
@@ -205,22 +157,23 @@ module _ (a : Inside) (kept : IsKeptIn a) where
         (sym (withdrawn_around-records a.clock a.seats u x kept.placed at is_u a.book.records), sym (withdrawal_messages-records a.clock a.seats u x kept.placed at is_u a.book.records))
 
     -- what is left once u has finished
-    pub carried-finish : refusal_of (table_in a) (call.Finish u) ≡ None
-        → Carried (seen a) (call.Finish u) (seats_last u a.clock a.seats) a.present (book_with a (map (settled_at (seats_last u a.clock a.seats) u.slot) a.book.records)) (a.clock + 1) a.limits
-        (sum_by (messages_of (seats_last u a.clock a.seats)) (slot_list u.slot a.book.records))
+    pub carried-finish : refusal_of (table_in a) (call.Finish u) ≡ None → let new = seats_last u a.clock a.seats in
+        Carried (seen a) (call.Finish u) new a.present (book_with a (map (walked_at within.Asked (settles Thinking (seat_state new)) u.slot) a.book.records)) (a.clock + 1) a.limits
+        (sum_by (walk_costs within.Asked (settling_cost Thinking (seat_state new)) u.slot) (slot_list u.slot a.book.records))
     carried-finish accepted =
         let eats : state_of (table_in a) u ≡ Some Eating = found Eating (state_of (table_in a) u) accepted in
         let (x, at, is_u) = has_seat Eating eats in
         let lt : u.slot < length a.seats = in_range a.seats u.slot x at in
         let seat : Seat = record { diner = record { task = u; state = Thinking }; stamp = a.clock } in
-        let new = seats_last u a.clock a.seats in
+        let new = seats_last u a.clock a.seats in let change = walked_fork within.Asked (settles Thinking (seat_state new)) u.slot in
         let old = by_stamp a.clock a.seats in
         let order : by_stamp (a.clock + 1) new ≡ moved_last u old = rw add-one (sym (moved_last-seats a.clock a.seats u x kept.placed lt at is_u)) in
         let conflicts = conflicts-set a.seats u.slot (Some seat) a.book.records lt (sym (same_task-true x.diner.task u is_u) ∙ sym (ap (task_in_seat u.slot) at)) in
         let slot_is : u.slot ≡ 0 + u.slot = omega arith in
         let placed : ArePlaced (a.clock + 1) 0 new = are_placed-set (a.clock + 1) 0 a.seats u.slot (Some seat) (placed_later a.clock 0 a.seats kept.placed) (slot_is, omega arith) in
-        let counted = kept.counted ∙ sym (ap length order ∙ length-moved u old ∙ length-without u old kept.sound.each_once (ap is_some eats)) in
-        carried (call.Finish u) new a.present (map (settled_at new u.slot) a.book.records) (a.clock + 1) _ accepted
-        (table_by a.limits (a.clock + 1) _ _ _ _ order (conflicts-changed new (is_end u.slot) (settled_fork new) a.book.records ∙ conflicts))
-        (settles_in (a.clock + 1) new _ seat placed (get_or-set_same a.seats u.slot (Some seat) None lt) (same_task-refl u) order conflicts (sound_after (call.Finish u) accepted).ends_present)
+        let counted = kept.counted ∙ sym (ap length order ∙ length-append (without u old) (seat.diner ∷ []) ∙ length-without u old kept.sound.each_once (ap is_some eats)) in
+        let here = get_or-set_same a.seats u.slot (Some seat) None lt in
+        carried (call.Finish u) new a.present (map (changed_where (is_end u.slot) change) a.book.records) (a.clock + 1) _ accepted
+        (table_by a.limits (a.clock + 1) _ _ _ _ order (conflicts-changed new (is_end u.slot) change a.book.records ∙ conflicts))
+        (settles_in within.Asked Eating Thinking finish_comes (a.clock + 1) _ _ _ placed here (same_task-refl u) (ap state_of_seat here) (sym state_of-table_of ∙ eats) order conflicts (sound_after (call.Finish u) accepted).ends_present)
         placed (stamps-latest a.clock a.seats u.slot seat kept.stamps_differ kept.placed lt refl) counted (length-set a.seats u.slot (Some seat))

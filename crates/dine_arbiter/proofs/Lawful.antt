@@ -1,21 +1,9 @@
 -- The edges around a slot are lawful between calls: so they still are, by the state that its task had, once the task has
 -- another.
-use Rattle.std.proofs.Common.{◌≡◌, ◌≢◌, ℕ, true, List, [], ◌∷◌, get_or, set, map, Option, Some, None, is_some, IsTrue, inl, inr, refl, sym, ap, ◌∙◌, subst, get_or-set_other, get_or-set_same, arith}
-use Rattle.std.specs.List.{AllByRecursion, AllZip, list_all}
-use Rattle.std.proofs.lemmas.Bool.{cases_Bool, and_parts, and_from, eqb-true, false≢true}
-use Rattle.dine_table.specs.Table.{same_task, state_in, sooner}
-use Rattle.dine_table.specs.Sound.{EndsDiffer}
-use Rattle.dine_table.proofs.CallerLemmas.{diner_put_in-state, same_task-refl}
-use Rattle.dine_forks.specs.Book.{is_end, slot_list}
-use Rattle.dine_arbiter.specs.Edge.{agrees, agrees_at, is_lawful}
-use Rattle.dine_arbiter.specs.Seats.{Task, State, Seat, by_stamp, ArePlaced, put_in_seat, state_at, state_in_seat, task_at, state_of_seat, seat_state}
-use Rattle.dine_arbiter.specs.Records.{ForkRecord, conflict_of}
-use Rattle.dine_arbiter.proofs.SlotEdges.{is_lawful_beside}
-use Rattle.dine_arbiter.specs.Arbitration.{forks_of}
+use Rattle.dine_arbiter.proofs.Words.{◌≡◌, ◌≢◌, ℕ, true, List, [], ◌∷◌, get_or, set, map, Option, Some, None, is_some, IsTrue, inl, inr, refl, sym, ap, ◌∙◌, get_or-set_other, get_or-set_same, arith, AllByRecursion, AllZip, list_all, cases_Bool, and_parts, and_from, eqb-true, false≢true, same_task, state_in, EndsDiffer, diner_put_in-state, same_task-refl, is_end, slot_list, agrees, is_lawful, Task, State, Seat, by_stamp, ArePlaced, put_in_seat, state_at, task_at, state_of_seat, seat_state, ForkRecord, conflict_of, forks_of}
+use Rattle.dine_arbiter.proofs.SlotEdges.{is_lawful_beside, second-end}
 use Rattle.dine_arbiter.proofs.EdgeLaws.{ends_present}
-use Rattle.dine_arbiter.proofs.Seating.{state_in-task_at}
-use Rattle.dine_arbiter.proofs.Kept.{seated, in_range}
-use Rattle.dine_arbiter.proofs.SlotEdges.{second-end}
+use Rattle.dine_arbiter.proofs.Seating.{in_range, seated, state_in-task_at}
 
 -- the ends of a record are two slots, as those of its conflict are two tasks
 pub slots-differ : (seats : List (Option Seat)) (rs : List ForkRecord) → EndsDiffer (map (conflict_of seats) rs) → AllByRecursion (λ (r : ForkRecord). r.first ≢ r.second) rs
@@ -25,14 +13,10 @@ slots-differ seats (r ∷ rs) h =
 
 -- a task that is present in a state has it at its seat
 pub state-seated : (seats : List (Option Seat)) (u : Task) (s : State) → state_at seats u ≡ Some s → seat_state seats u.slot ≡ s
-state-seated seats u s h = go (get_or seats u.slot None) h
-  where
-    go : (o : Option Seat) → state_in_seat u o ≡ Some s → state_of_seat o ≡ s
-    go None k = absurd (let w : None ≡ Some s = k in cc)
-    go (Some x) k = elim (cases_Bool (same_task x.diner.task u)) [
-      | inl e ↦ let w : Some x.diner.state ≡ Some s = rw e at k in cc
-      | inr e ↦ absurd (let w : None ≡ Some s = rw e at k in cc)
-    ]
+state-seated seats u s h =
+    let (x, at, same) = seated seats u s h in
+    let is : Some x.diner.state ≡ Some s = rw (at, same) at h in
+    rw at cc
 
 -- and once it is put into another, that one
 pub state-put : (seats : List (Option Seat)) (u : Task) (s t : State) → state_at seats u ≡ Some s → seat_state (set seats u.slot (put_in_seat t u (get_or seats u.slot None))) u.slot ≡ t
@@ -47,13 +31,10 @@ module _ (clock : ℕ) (seats : List (Option Seat)) (slot : ℕ) (o : Option Sea
   lawful_between r h =
       let order = by_stamp clock seats in
       let c = conflict_of seats r in
-      let s = sooner order c.0 c.1 in
       let (x, y, ha, hb) = ends_present order c.0 c.1 r.fork h in
       let first : state_in order c.0 ≡ Some (seat_state seats r.first) = state_in-task_at clock seats r.first placed (ap is_some ha) in
       let second : state_in order c.1 ≡ Some (seat_state seats r.second) = state_in-task_at clock seats r.second placed (ap is_some hb) in
-      let here : agrees_at (Some (seat_state seats r.first)) (Some (seat_state seats r.second)) s r.fork ≡ true
-      = subst (λ a. agrees_at a (Some (seat_state seats r.second)) s r.fork ≡ true) first (subst (λ b. agrees_at (state_in order c.0) b s r.fork ≡ true) second h) in
-      (and_parts (is_lawful r.fork (seat_state seats r.first) (seat_state seats r.second)) _ here).0
+      (and_parts (is_lawful r.fork (seat_state seats r.first) (seat_state seats r.second)) _ (rw (first, second) at h)).0
 
   -- at each other slot the state stays
   elsewhere : (k : ℕ) → k ≢ slot → seat_state (set seats slot o) k ≡ seat_state seats k

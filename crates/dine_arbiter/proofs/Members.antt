@@ -1,37 +1,20 @@
 -- What an arbiter is left as by a task that joins or leaves, and by a conflict that is declared or ends.
-use Rattle.std.proofs.Common.{◌≡◌, ℕ, ◌+◌, ◌-◌, ◌<◌, true, false, not, eqb, List, [], ◌∷◌, ◌++◌, length, get_or, set, map, Option, Some, None, is_some, inl, inr, refl, sym, ap, ◌∙◌, arith, add-one, length-append, ◌≢◌, leb}
-use Rattle.std.specs.List.{AllByRecursion, filter, list_any}
-use Rattle.std.proofs.lemmas.Bool.{cases_Bool, leb-false, eqb-true}
-use Rattle.std.proofs.Math.ListN.{length-set}
+use Rattle.dine_arbiter.proofs.Words.{◌≡◌, ℕ, ◌+◌, ◌-◌, ◌<◌, true, false, not, eqb, List, [], ◌∷◌, ◌++◌, length, get_or, set, map, Option, Some, None, is_some, inl, inr, refl, sym, ap, ◌∙◌, arith, add-one, length-append, ◌≢◌, leb, AllByRecursion, filter, list_any, cases_Bool, leb-false, eqb-true, length-set, Full, EndsPresent, has_end, state_of, state_in, same_task, is_between, are_in_conflict, is_full, refusal_of, newcomer, without, has_no_room, found, newcomers_slot-lt, passed, same_task-true, Task, Thinking, Diner, Seat, by_stamp, task_at, seats_last, ArePlaced, first_free, State, seat_state, is_sooner_at, ForkRecord, conflict_of, ForkId, fork_of_new, messages_of_new, length-map, map-append, new_fork}
 use Rattle.dine_words.specs.declared.call.Call.TheVariants as call
-use Rattle.dine_words.specs.declared.call.Refusal.TheVariants.{Full}
-use Rattle.dine_table.specs.Sound.{EndsPresent}
-use Rattle.dine_table.specs.Table.{has_end, state_of, state_in, same_task, is_between, are_in_conflict}
-use Rattle.dine_table.specs.Calls.{is_full, refusal_of, newcomer, without, has_no_room}
-use Rattle.dine_table.proofs.CallerLemmas.{found, passed, same_task-true}
 use Rattle.dine_forks.specs.Book.{is_end, are_joined, is_full as is_full_book, with_record, is_between as is_between_slots}
-use Rattle.dine_arbiter.specs.Seats.{Task, Thinking, Diner, Seat, by_stamp, state_in_seat, task_at, seats_last, ArePlaced, first_free, State, seat_state, is_sooner_at}
-use Rattle.dine_arbiter.specs.Records.{ForkRecord, conflict_of, Fork, ForkId, fork_of_new, messages_of_new}
+use Rattle.dine_arbiter.specs.Records.{Fork}
 use Rattle.dine_arbiter.proofs.Seated.{out_of_seat, by_stamp-latest, without-seats}
-use Rattle.dine_arbiter.proofs.Seating.{state_at_slot, has_end-conflict_of, conflicts_left, forks_left, conflicts-set_apart, are_placed-set, placed_later, is_between-conflict_of}
-use Rattle.dine_arbiter.proofs.Stamps.{stamps-latest, stamps-free, is_sooner_at-is, slots-apart}
-use Rattle.dine_arbiter.proofs.Slots.{length-by_stamp, free_slot-is, first_free-below, first_free-free, set-free, length-without}
-use Rattle.dine_arbiter.proofs.Kept.{Carried, IsKeptIn, book_with, carried, seen, table_by, table_in, has_seat, in_range, state_of-table_of}
+use Rattle.dine_arbiter.proofs.Seating.{in_range, state_at_slot, has_end-conflict_of, conflicts_left, forks_left, conflicts-set_apart, are_placed-set, placed_later, is_between-conflict_of}
+use Rattle.dine_arbiter.proofs.Stamps.{first_free_free, free_slot-is, is_sooner_at-is, length-without, set-free, slots-apart, stamps-free, stamps-latest}
+use Rattle.dine_arbiter.proofs.Kept.{Carried, IsKeptIn, book_with, carried, seen, table_by, table_in, has_seat, state_of-table_of}
 use Rattle.dine_arbiter.specs.declared.arbiter.Arbiter.TheInside.{Inside}
-use Rattle.std.proofs.lemmas.List.{length-map, map-append}
-use Rattle.dine_arbiter.specs.Forks.{new_fork}
 use Rattle.dine_arbiter.proofs.Settling.{settles-settled}
 
 -- ---- a free seat is an end of no conflict
 
--- at a free seat nobody stands in the order
-free_absent : (clock : ℕ) (seats : List (Option Seat)) (s : ℕ) → ArePlaced clock 0 seats → get_or seats s None ≡ None → state_in (by_stamp clock seats) (task_at seats s) ≡ None
-free_absent clock seats s placed free =
-    state_at_slot clock seats s placed ∙ ap (state_in_seat (task_at seats s)) free
-
--- so it is no end where somebody does
+-- it is no end where somebody is present
 no_end : (clock : ℕ) (seats : List (Option Seat)) (i s : ℕ) → ArePlaced clock 0 seats → get_or seats i None ≡ None → is_some (state_in (by_stamp clock seats) (task_at seats s)) ≡ true → eqb i s ≡ false
-no_end clock seats i s placed free some = grind (arith, eqb-true i s, free_absent clock seats s placed)
+no_end clock seats i s placed free some = grind (arith, eqb-true i s, state_at_slot clock seats s placed)
 
 -- and no record has it
 apart_from_free : (clock : ℕ) (seats : List (Option Seat)) (i : ℕ) (rs : List ForkRecord) → ArePlaced clock 0 seats → get_or seats i None ≡ None → EndsPresent (by_stamp clock seats) (map (conflict_of seats) rs) → AllByRecursion (λ r. is_end i r ≡ false) rs
@@ -42,10 +25,7 @@ apart_from_free clock seats i (r ∷ rs) placed free p =
 -- the records without those of a slot have it at no end
 apart_from_left : (i : ℕ) (rs : List ForkRecord) → AllByRecursion (λ r. is_end i r ≡ false) (filter (λ r. not (is_end i r)) rs)
 apart_from_left i [] = tt
-apart_from_left i (r ∷ rs) = elim (cases_Bool (is_end i r)) [
-  | inl e ↦ rw e (apart_from_left i rs)
-  | inr e ↦ rw e (e, apart_from_left i rs)
-]
+apart_from_left i (r ∷ rs) = elim (cases_Bool (is_end i r)) [ inl e ↦ rw e (apart_from_left i rs) | inr e ↦ rw e (e, apart_from_left i rs) ]
 
 module _ (a : Inside) (kept : IsKeptIn a) where
   -- the next task to join gets the first free seat
@@ -57,9 +37,10 @@ module _ (a : Inside) (kept : IsKeptIn a) where
   free_seat accepted =
       let less : length (by_stamp a.clock a.seats) < a.limits.tasks = leb-false a.limits.tasks (length (by_stamp a.clock a.seats)) (passed (is_full (table_in a)) Full None accepted).0 in
       let counted = kept.counted in
-      let count = length-by_stamp a.clock 0 a.seats kept.placed in
+      let slot = free_slot-is a.clock a.seats kept.placed in
+      let below = newcomers_slot-lt (table_in a) accepted in
       let fits = kept.seat_for_each_slot in
-      (first_free-below a.seats (omega arith), omega arith)
+      (omega arith, omega arith)
 
   -- what is left once a task has joined
   pub carried-join : (u : Task) → u ≡ newcomer (table_in a) → refusal_of (table_in a) call.Join ≡ None
@@ -70,7 +51,7 @@ module _ (a : Inside) (kept : IsKeptIn a) where
       let slot_is : u.slot ≡ first_free a.seats = ap (λ (w : Task). w.slot) (named ∙ newcomer-is) in
       let room = free_seat accepted in
       let lt : u.slot < length a.seats = omega arith in
-      let free : get_or a.seats u.slot None ≡ None = ap (λ k. get_or a.seats k None) slot_is ∙ first_free-free a.seats in
+      let free : get_or a.seats u.slot None ≡ None = ap (λ k. get_or a.seats k None) slot_is ∙ first_free_free a.seats in
       let of : Task → List Diner = λ w. by_stamp a.clock a.seats ++ record { task = w; state = Thinking } ∷ [] in
       let order : by_stamp (a.clock + 1) new ≡ of (newcomer (table_in a))
       = rw add-one (by_stamp-latest a.clock 0 a.seats u.slot seat kept.placed lt refl ∙ ap (λ xs. by_stamp a.clock xs ++ seat.diner ∷ []) (set-free a.seats u.slot free) ∙ ap of named) in
@@ -154,7 +135,7 @@ module _ (a : Inside) (kept : IsKeptIn a) where
         = map-append (conflict_of a.seats) a.book.records (r ∷ []) ∙ ap (λ c. map (conflict_of a.seats) a.book.records ++ c ∷ []) ends in
         let state_u : state_of (table_in a) u ≡ Some (seat_state a.seats u.slot) = state_of-table_of a kept u ∙ rw (at_u, is_u) refl in
         let state_v : state_of (table_in a) v ≡ Some (seat_state a.seats v.slot) = state_of-table_of a kept v ∙ rw (at_v, is_v) refl in
-        let stands = is_sooner_at-is a.clock a.seats u v p q kept.placed kept.stamps_differ at_u is_u at_v is_v ne in
+        let stands = is_sooner_at-is a.clock a.seats u v p q kept.placed kept.stamps_differ at_u is_u at_v is_v in
         let settles = settles-settled (new_fork (is_sooner_at a.seats u.slot v.slot)) (seat_state a.seats u.slot) (seat_state a.seats v.slot) in
         carried a kept (call.Conflict u v) a.seats a.present (a.book.records ++ r ∷ []) a.clock (messages_of_new a.seats u.slot v.slot) accepted (table_by a.limits a.clock _ _ _ _ refl conflicts)
         (g, map-append (λ (w : ForkRecord). w.fork) a.book.records (r ∷ []), rw (← stands, state_u, state_v) settles) kept.placed kept.stamps_differ kept.counted refl

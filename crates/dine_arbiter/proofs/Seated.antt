@@ -1,21 +1,12 @@
 -- What a change of one seat does to the order that the stamps tell.
-use Rattle.std.proofs.Common.{◌≡◌, ◌≢◌, ℕ, Bool, not, zero, suc, ◌+◌, ◌<◌, ◌≤◌, true, false, cond, if◌then◌else◌, eqb, ltb, List, [], ◌∷◌, ◌++◌, length, get_or, set, map, replicate, Option, Some, None, is_some, inl, inr, refl, sym, ap, ◌∙◌, subst, arith, add-zero}
-use Rattle.std.proofs.lemmas.Bool.Decides.{nat_tests}
-use Rattle.std.specs.List.{cons_option}
-use Rattle.std.proofs.lemmas.Bool.{lt-ltb, le-ltb, eq-eqb, ne_eqb, cases_lt}
-use Rattle.std.specs.List.{filter}
-use Rattle.std.proofs.lemmas.List.{map-append}
-use Rattle.std.proofs.lemmas.List.Elements.{filter-append}
-use Rattle.dine_table.specs.Table.{same_task, state_in, stands_before}
-use Rattle.dine_table.specs.Calls.{diner_put_in, with_state, without, moved_last}
-use Rattle.dine_arbiter.specs.Seats.{Task, State, Thinking, Diner, Seat, diner_stamped, stamped, by_stamp, IsPlaced, ArePlaced, put_in_seat, state_in_seat, state_at}
+use Rattle.dine_arbiter.proofs.Words.{◌≡◌, ◌≢◌, ℕ, Bool, not, zero, suc, ◌+◌, ◌<◌, ◌≤◌, true, false, cond, if◌then◌else◌, eqb, ltb, List, [], ◌∷◌, ◌++◌, length, get_or, set, map, replicate, Option, Some, None, is_some, inl, inr, refl, sym, ap, ◌∙◌, subst, arith, add-zero, nat_tests, cons_option, filter, lt-ltb, le-ltb, eq-eqb, ne_eqb, cases_eq, cases_lt, get_or-map, ext_get_or, get_or-set_other, get_or-set_same, length-map, length-set, map-append, map-set, set-get_or, filter-append, filter_map-append, same_task, state_in, stands_before, diner_put_in, with_state, without, moved_last, IsTold, is_hungry, Task, State, Thinking, Diner, Seat, diner_stamped, stamped, by_stamp, HasSlot, IsPlaced, ArePlaced, is_free, put_in_seat, state_in_seat, state_at, state_of_seat}
 
 -- ---- equal seats
 
 -- what is read of each of so many equal ones
-pub map-replicate : {X Y : Type 0} (f : X → Y) (n : ℕ) (x : X) → map f (replicate n x) ≡ replicate n (f x)
-map-replicate f zero x = refl
-map-replicate f (suc n) x = ap (λ ys. f x ∷ ys) (map-replicate f n x)
+pub map_replicate : {X Y : Type 0} (f : X → Y) (n : ℕ) (x : X) → map f (replicate n x) ≡ replicate n (f x)
+map_replicate f zero x = refl
+map_replicate f (suc n) x = ap (λ ys. f x ∷ ys) (map_replicate f n x)
 
 -- whatever place is read of equal ones, with the same behind all
 pub get_or-equal : {X : Type 0} (n k : ℕ) (x : X) → get_or (replicate n x) k x ≡ x
@@ -23,58 +14,102 @@ get_or-equal zero k x = refl
 get_or-equal (suc n) zero x = refl
 get_or-equal (suc n) (suc k) x = get_or-equal n k x
 
--- ---- a change of one place
+-- ---- what is kept beside the seats
 
 -- what holds of each place holds once one of them gets what it holds of
-pub each-set : (P : ℕ → Option Seat → Type 0) (seats : List (Option Seat)) (i : ℕ) (o : Option Seat) → ((k : ℕ) → P k (get_or seats k None)) → P i o → (k : ℕ) → P k (get_or (set seats i o) k None)
-each-set P [] i o h p k = h k
+each-set : (P : ℕ → Option Seat → Type 0) (seats : List (Option Seat)) (i : ℕ) (o : Option Seat) → ((k : ℕ) → P k (get_or seats k None)) → P i o → (k : ℕ) → P k (get_or (set seats i o) k None)
 each-set P (x ∷ xs) zero o h p zero = p
-each-set P (x ∷ xs) zero o h p (suc k) = h (suc k)
-each-set P (x ∷ xs) (suc i) o h p zero = h zero
 each-set P (x ∷ xs) (suc i) o h p (suc k) = each-set (λ n. P (suc n)) xs i o (λ n. h (suc n)) p k
+each-set P xs i o h p k = h k
 
--- ---- a change of each seat
+module _ {seats : List (Option Seat)} {states : List State} {hungry free : List Bool} (told : IsTold seats states hungry free) (i : ℕ) (o : Option Seat) where
+  -- a seat gets a new content, and what is kept beside it is written too
+  pub told-set : (states' : List State) (hungry' free' : List Bool) → HasSlot i o → states' ≡ set states i (state_of_seat o) → hungry' ≡ map is_hungry states' → free' ≡ set free i (is_free o) → IsTold (set seats i o) states' hungry' free'
+  told-set states' hungry' free' has put_state put_hungry put_free = record {
+    states_told = put_state ∙ ap (λ xs. set xs i (state_of_seat o)) told.states_told ∙ sym (map-set state_of_seat seats i o);
+    hungry_told = put_hungry;
+    free_told = put_free ∙ ap (λ xs. set xs i (is_free o)) told.free_told ∙ sym (map-set is_free seats i o);
+    slots_told = each-set HasSlot seats i o told.slots_told has;
+  }
 
--- a state that each task of a stamp gets is got in its seat
-with_state-stamped : (s : State) (u : Task) (n : ℕ) (seats : List (Option Seat)) → with_state s u (stamped n seats) ≡ stamped n (map (put_in_seat s u) seats)
-with_state-stamped s u n [] = refl
-with_state-stamped s u n (None ∷ xs) = with_state-stamped s u n xs
-with_state-stamped s u n (Some seat ∷ xs) = grind (arith, with_state-stamped s u n xs)
+  -- a state that is there already needn't be written
+  pub same-state : state_of_seat (get_or seats i None) ≡ state_of_seat o → states ≡ set states i (state_of_seat o)
+  same-state e = sym (set-get_or states i Thinking) ∙ ap (set states i) (ap (λ xs. get_or xs i Thinking) told.states_told ∙ get_or-map state_of_seat seats i None ∙ e)
 
--- so in the whole order
-with_state-by_stamp : (s : State) (u : Task) (n : ℕ) (seats : List (Option Seat)) → with_state s u (by_stamp n seats) ≡ by_stamp n (map (put_in_seat s u) seats)
-with_state-by_stamp s u zero seats = refl
-with_state-by_stamp s u (suc n) seats =
-    map-append (diner_put_in s u) (by_stamp n seats) (stamped n seats) ∙ rw (with_state-by_stamp s u n seats, with_state-stamped s u n seats) refl
+  -- nor whether the seat is free
+  pub same-free : is_free (get_or seats i None) ≡ is_free o → free ≡ set free i (is_free o)
+  same-free e = sym (set-get_or free i true) ∙ ap (set free i) (ap (λ xs. get_or xs i true) told.free_told ∙ get_or-map is_free seats i None ∙ e)
+
+-- ---- at most one seat has a task
+
+-- a test that no seat passes but one
+abbrev pub FailsElsewhere : (Diner → Bool) → List (Option Seat) → ℕ → Type 0
+FailsElsewhere p seats k = (j : ℕ) (x : Seat) → j ≢ k → get_or seats j None ≡ Some x → p x.diner ≡ false
+
+-- the seat at a place is placed
+pub placed_at : (clock slot : ℕ) (seats : List (Option Seat)) (k : ℕ) → ArePlaced clock slot seats → IsPlaced clock (slot + k) (get_or seats k None)
+placed_at clock slot [] k h = tt
+placed_at clock slot (x ∷ xs) zero h = rw add-zero h.0
+placed_at clock slot (x ∷ xs) (suc k) h =
+    let same : slot + 1 + k ≡ slot + suc k = omega arith in
+    subst (λ n. IsPlaced clock n (get_or xs k None)) same (placed_at clock (slot + 1) xs k h.1)
+
+-- so its task has the place as its slot, and a stamp below the clock
+pub placed_seat : (clock : ℕ) (seats : List (Option Seat)) (k : ℕ) (x : Seat) → ArePlaced clock 0 seats → get_or seats k None ≡ Some x → (x.diner.task.slot ≡ k) × (x.stamp < clock)
+placed_seat clock seats k x h at =
+    let here : IsPlaced clock (0 + k) (Some x) = subst (IsPlaced clock (0 + k)) at (placed_at clock 0 seats k h) in
+    let slot : x.diner.task.slot ≡ 0 + k = here.0 in
+    (omega arith, here.1)
+
+-- each seat but that at the task's slot has another task
+placed_elsewhere : (clock : ℕ) (seats : List (Option Seat)) (u : Task) → ArePlaced clock 0 seats → FailsElsewhere (λ d. same_task d.task u) seats u.slot
+placed_elsewhere clock seats u h j x ne at = rw (ne_eqb x.diner.task.slot u.slot (λ e. ne (sym (placed_seat clock seats j x h at).0 ∙ e))) refl
+
+-- ---- a change of one seat
 
 -- the seat, free if its task is u
 abbrev pub out_of_seat : Task → Option Seat → Option Seat
 out_of_seat u None = None
 out_of_seat u (Some seat) = if same_task seat.diner.task u then None else Some seat
 
--- and whoever leaves leaves its seat
-without-stamped : (u : Task) (n : ℕ) (seats : List (Option Seat)) → without u (stamped n seats) ≡ stamped n (map (out_of_seat u) seats)
-without-stamped u n [] = refl
-without-stamped u n (None ∷ xs) = without-stamped u n xs
-without-stamped u n (Some seat ∷ xs) = grind (arith, without-stamped u n xs)
+-- what changes an order diner by diner as it changes the seats, and leaves the seats of all tasks but u's, is a change of u's seat
+module _ (H : List Diner → List Diner) (change : Option Seat → Option Seat) (nil : H [] ≡ []) (joins : (xs ys : List Diner) → H (xs ++ ys) ≡ H xs ++ H ys) (free : change None ≡ None)
+    (each : (n : ℕ) (seat : Seat) → H (stamped n (Some seat ∷ [])) ≡ stamped n (change (Some seat) ∷ [])) (u : Task) (others : (x : Seat) → same_task x.diner.task u ≡ false → change (Some x) ≡ Some x) where
+  -- so it is with the diners of a stamp
+  changed-stamped : (n : ℕ) (xs : List (Option Seat)) → H (stamped n xs) ≡ stamped n (map change xs)
+  changed-stamped n [] = nil
+  changed-stamped n (None ∷ xs) = changed-stamped n xs ∙ rw free refl
+  changed-stamped n (Some x ∷ xs) =
+      ap H (filter_map-append (diner_stamped n) (Some x ∷ []) xs) ∙ joins (stamped n (Some x ∷ [])) (stamped n xs)
+      ∙ rw (each n x, changed-stamped n xs) (sym (filter_map-append (diner_stamped n) (change (Some x) ∷ []) (map change xs)))
 
--- so in the whole order
-without-by_stamp : (u : Task) (n : ℕ) (seats : List (Option Seat)) → without u (by_stamp n seats) ≡ by_stamp n (map (out_of_seat u) seats)
-without-by_stamp u zero seats = refl
-without-by_stamp u (suc n) seats =
-    filter-append (λ d. not (same_task d.task u)) (by_stamp n seats) (stamped n seats) ∙ rw (without-by_stamp u n seats, without-stamped u n seats) refl
+  -- and in the whole order
+  changed-by_stamp : (n : ℕ) (xs : List (Option Seat)) → H (by_stamp n xs) ≡ by_stamp n (map change xs)
+  changed-by_stamp zero xs = nil
+  changed-by_stamp (suc n) xs = joins (by_stamp n xs) (stamped n xs) ∙ rw (changed-by_stamp n xs, changed-stamped n xs) refl
 
--- ---- a change of one seat
+  -- the change of all seats is a write to one
+  changed-one : (clock : ℕ) (seats : List (Option Seat)) → ArePlaced clock 0 seats → u.slot < length seats → H (by_stamp clock seats) ≡ by_stamp clock (set seats u.slot (change (get_or seats u.slot None)))
+  changed-one clock seats h lt = changed-by_stamp clock seats ∙ ap (by_stamp clock) (ext_get_or None (map change seats) _ (length-map seats change ∙ sym (length-set seats u.slot (change (get_or seats u.slot None)))) (λ k below. ap (λ d. get_or (map change seats) k d) (sym free) ∙ get_or-map change seats k None ∙ elim (cases_eq k u.slot) [
+    | inl same ↦ rw same (sym (get_or-set_same seats u.slot (change (get_or seats u.slot None)) None lt))
+    | inr apart ↦ stays k apart (get_or seats k None) refl ∙ sym (get_or-set_other seats u.slot k (change (get_or seats u.slot None)) None apart)
+  ]))
+    where
+      stays : (k : ℕ) → k ≢ u.slot → (o : Option Seat) → get_or seats k None ≡ o → change o ≡ o
+      stays k apart None at = free
+      stays k apart (Some x) at = others x (placed_elsewhere clock seats u h k x apart at)
 
--- a change that leaves each other seat is a write to one
-pub set-as_map : {X : Type 0} (h : X → X) (xs : List X) (i : ℕ) (d : X) → i < length xs → ((k : ℕ) → k ≢ i → k < length xs → h (get_or xs k d) ≡ get_or xs k d) → map h xs ≡ set xs i (h (get_or xs i d))
-set-as_map {X} h [] i d lt others = absurd (omega arith)
-set-as_map {X} h (x ∷ xs) zero d lt others = ap (λ t. h x ∷ t) (same xs (λ k below. others (suc k) (omega arith) (omega arith)))
-  where
-    same : (ys : List X) → ((k : ℕ) → k < length ys → h (get_or ys k d) ≡ get_or ys k d) → map h ys ≡ ys
-    same [] each = refl
-    same (y ∷ ys) each = ap (λ t. t ∷ map h ys) (each 0 (omega arith)) ∙ ap (λ t. y ∷ t) (same ys (λ k below. each (suc k) (omega arith)))
-set-as_map {X} h (x ∷ xs) (suc i) d lt others = ap (λ t. t ∷ map h xs) (others 0 (omega arith) (omega arith)) ∙ ap (λ t. x ∷ t) (set-as_map h xs i d (omega arith) (λ k ne below. others (suc k) (omega arith) (omega arith)))
+-- a task that has its seat gets a state
+pub with_state-seats : (clock : ℕ) (seats : List (Option Seat)) (s : State) (u : Task) → ArePlaced clock 0 seats → u.slot < length seats → with_state s u (by_stamp clock seats) ≡ by_stamp clock (set seats u.slot (put_in_seat s u (get_or seats u.slot None)))
+with_state-seats clock seats s u =
+    changed-one (with_state s u) (put_in_seat s u) refl (map-append (diner_put_in s u)) refl (λ n seat. grind arith) u (λ x other. rw other refl) clock seats
+
+-- a task that has its seat leaves
+pub without-seats : (clock : ℕ) (seats : List (Option Seat)) (u : Task) → ArePlaced clock 0 seats → u.slot < length seats → without u (by_stamp clock seats) ≡ by_stamp clock (set seats u.slot (out_of_seat u (get_or seats u.slot None)))
+without-seats clock seats u =
+    changed-one (without u) (out_of_seat u) refl (filter-append (λ d. not (same_task d.task u))) refl (λ n seat. grind arith) u (λ x other. rw other refl) clock seats
+
+-- ---- a seat that is stamped with the clock
 
 -- a seat whose stamp isn't n may as well be free
 stamped-set : (n : ℕ) (seats : List (Option Seat)) (i : ℕ) (x : Option Seat) → diner_stamped n x ≡ None → stamped n (set seats i x) ≡ stamped n (set seats i None)
@@ -122,10 +157,6 @@ pub by_stamp-one : (n : ℕ) (x : Seat) → by_stamp n (Some x ∷ []) ≡ cond 
 by_stamp-one zero x = rw (le-ltb x.stamp 0 (omega arith)) refl
 by_stamp-one (suc n) x = grind (arith, nat_tests, by_stamp-one n x)
 
--- a test that no seat passes but one
-abbrev pub FailsElsewhere : (Diner → Bool) → List (Option Seat) → ℕ → Type 0
-FailsElsewhere p seats k = (j : ℕ) (x : Seat) → j ≢ k → get_or seats j None ≡ Some x → p x.diner ≡ false
-
 -- where none passes, nobody of a stamp does
 none-stamped : (p : Diner → Bool) (n : ℕ) (seats : List (Option Seat)) → ((j : ℕ) (x : Seat) → get_or seats j None ≡ Some x → p x.diner ≡ false) → filter p (stamped n seats) ≡ []
 none-stamped p n [] each = refl
@@ -150,38 +181,6 @@ one-by_stamp p (suc n) seats k others =
     rw (filter-append p (by_stamp n seats) (stamped n seats), one-by_stamp p n seats k others, one-stamped p n seats k others)
     (sym (filter-append p (by_stamp n (get_or seats k None ∷ [])) (stamped n (get_or seats k None ∷ []))))
 
--- ---- at most one seat has a task
-
--- the seat at a place is placed
-pub placed_at : (clock slot : ℕ) (seats : List (Option Seat)) (k : ℕ) → ArePlaced clock slot seats → IsPlaced clock (slot + k) (get_or seats k None)
-placed_at clock slot [] k h = tt
-placed_at clock slot (x ∷ xs) zero h = rw add-zero h.0
-placed_at clock slot (x ∷ xs) (suc k) h =
-    let same : slot + 1 + k ≡ slot + suc k = omega arith in
-    subst (λ n. IsPlaced clock n (get_or xs k None)) same (placed_at clock (slot + 1) xs k h.1)
-
--- so its task has the place as its slot, and a stamp below the clock
-pub placed_seat : (clock : ℕ) (seats : List (Option Seat)) (k : ℕ) (x : Seat) → ArePlaced clock 0 seats → get_or seats k None ≡ Some x → (x.diner.task.slot ≡ k) × (x.stamp < clock)
-placed_seat clock seats k x h at =
-    let here : IsPlaced clock (0 + k) (Some x) = subst (IsPlaced clock (0 + k)) at (placed_at clock 0 seats k h) in
-    let slot : x.diner.task.slot ≡ 0 + k = here.0 in
-    (omega arith, here.1)
-
--- each seat but that at the task's slot has another task
-placed_elsewhere : (clock : ℕ) (seats : List (Option Seat)) (u : Task) → ArePlaced clock 0 seats → FailsElsewhere (λ d. same_task d.task u) seats u.slot
-placed_elsewhere clock seats u h j x ne at = rw (ne_eqb x.diner.task.slot u.slot (λ e. ne (sym (placed_seat clock seats j x h at).0 ∙ e))) refl
-
--- ---- a change of the one seat that has a task
-
--- a task's change leaves each other seat
-changes_one : (clock : ℕ) (seats : List (Option Seat)) (u : Task) (change : Option Seat → Option Seat) → change None ≡ None → ((x : Seat) → same_task x.diner.task u ≡ false → change (Some x) ≡ Some x)
-    → ArePlaced clock 0 seats → u.slot < length seats → map change seats ≡ set seats u.slot (change (get_or seats u.slot None))
-changes_one clock seats u change none others h lt = set-as_map change seats u.slot None lt (λ k ne below. go k ne (get_or seats k None) refl)
-  where
-    go : (k : ℕ) → k ≢ u.slot → (o : Option Seat) → get_or seats k None ≡ o → change o ≡ o
-    go k ne None at = none
-    go k ne (Some x) at = others x (placed_elsewhere clock seats u h k x ne at)
-
 -- ---- the state of a task is that in its seat
 
 -- what a task's diners tell of its state
@@ -204,14 +203,6 @@ state_in-by_stamp clock seats u h = state_in-below clock clock seats u h ∙ who
     whole (Some seat) p = rw (by_stamp-one clock seat, lt-ltb seat.stamp clock p.1) refl
 
 -- ---- whole calls on the order
-
--- a task that has its seat gets a state
-pub with_state-seats : (clock : ℕ) (seats : List (Option Seat)) (s : State) (u : Task) → ArePlaced clock 0 seats → u.slot < length seats → with_state s u (by_stamp clock seats) ≡ by_stamp clock (set seats u.slot (put_in_seat s u (get_or seats u.slot None)))
-with_state-seats clock seats s u h lt = with_state-by_stamp s u clock seats ∙ ap (by_stamp clock) (changes_one clock seats u (put_in_seat s u) refl (λ x other. rw other refl) h lt)
-
--- a task that has its seat leaves
-pub without-seats : (clock : ℕ) (seats : List (Option Seat)) (u : Task) → ArePlaced clock 0 seats → u.slot < length seats → without u (by_stamp clock seats) ≡ by_stamp clock (set seats u.slot (out_of_seat u (get_or seats u.slot None)))
-without-seats clock seats u h lt = without-by_stamp u clock seats ∙ ap (by_stamp clock) (changes_one clock seats u (out_of_seat u) refl (λ x other. rw other refl) h lt)
 
 -- a task that has its seat is stamped with the clock, thinking
 pub moved_last-seats : (clock : ℕ) (seats : List (Option Seat)) (u : Task) (seat : Seat) → ArePlaced clock 0 seats → u.slot < length seats → get_or seats u.slot None ≡ Some seat → same_task seat.diner.task u ≡ true

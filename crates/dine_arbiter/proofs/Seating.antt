@@ -1,23 +1,10 @@
 -- Records between slots are the conflicts between the tasks in them.
-use Rattle.std.proofs.Common.{◌≡◌, ℕ, zero, suc, ◌+◌, ◌<◌, Bool, true, false, not, cond, eqb, List, [], ◌∷◌, length, get_or, set, map, Option, Some, None, is_some, inl, inr, refl, sym, ap, ◌∙◌, subst, arith, add-zero, get_or-set_same, get_or-set_other, ◌≤◌}
-use Rattle.std.specs.List.{AllByRecursion, list_all, filter, sum_by}
-use Rattle.std.proofs.lemmas.Bool.{cases_Bool, eqb-true, eqb-false, or_parts, not-false, not-true}
-use Rattle.std.proofs.lemmas.List.Sums.{sum_by-cons}
-use Rattle.dine_table.specs.Table.{same_task, state_in, has_end, is_between, neighbours_in}
-use Rattle.dine_table.specs.Sound.{EndsPresent}
-use Rattle.dine_table.proofs.CallerLemmas.{diner_put_in-task, same_task-refl, same_task-true}
-use Rattle.dine_forks.specs.Book.{changed_where, is_end, holds, slot_list, is_between as is_between_slots, given_back_to, with_token}
-use Rattle.dine_forks.specs.Held.{dirtied_at}
-use Rattle.dine_arbiter.specs.Edge.{SettlesEnd, SettlesAround, holds_all, dirtied_around, same_bool, token_messages, withdrawn, withdrawal_messages, withdrawn_around, withdrawal_messages_around}
-use Rattle.dine_arbiter.specs.Forks.{forks_kept}
-use Rattle.dine_arbiter.specs.Seats.{Task, State, Seat, by_stamp, IsPlaced, ArePlaced, put_in_seat, state_in_seat, task_in_seat, task_at, state_of_seat, seat_state}
-use Rattle.dine_arbiter.specs.Records.{Fork, ForkRecord, conflict_of, neighbour_at, withdrawn_at, withdrawal_messages_of}
-use Rattle.dine_arbiter.proofs.SlotEdges.{messages_of, settled_at}
-use Rattle.dine_arbiter.specs.Arbitration.{forks_of}
-use Rattle.dine_arbiter.proofs.Settling.{settles-settled}
+use Rattle.dine_arbiter.proofs.Words.{◌≡◌, ℕ, zero, suc, ◌+◌, ◌<◌, Bool, true, false, not, cond, eqb, List, [], ◌∷◌, length, get_or, set, map, Option, Some, None, is_some, inl, inr, refl, sym, ap, ◌∙◌, subst, arith, add-zero, get_or-set_same, get_or-set_other, AllByRecursion, filter, sum_by, list_all, and_parts, cases_Bool, eqb-true, eqb-false, or_parts, get_or_past, sum_by-cons, same_task, state_in, has_end, is_between, neighbours_in, EndsPresent, diner_put_in-task, same_task-refl, same_task-true, dirtied_at, SettlesEnd, SettlesAround, dirtied_around, withdrawn_around, withdrawal_messages_around, forks_kept, Task, State, Seat, by_stamp, state_at, IsPlaced, ArePlaced, put_in_seat, state_in_seat, task_in_seat, task_at, state_of_seat, seat_state, ForkRecord, conflict_of, neighbour_at, withdrawn_at, withdrawal_messages_of, settles, walked_at, Reach, forks_of}
+use Rattle.dine_forks.specs.Book.{changed_where, is_end, slot_list, is_between as is_between_slots}
+use Rattle.dine_arbiter.specs.Records.{Fork}
+use Rattle.dine_arbiter.proofs.SlotEdges.{is_lawful_beside}
+use Rattle.dine_arbiter.proofs.SlotWalks.{Comes, settling_cost, sum-one, walk_costs, walk_settles}
 use Rattle.dine_arbiter.proofs.Seated.{placed_at, state_in-by_stamp}
-use Rattle.std.proofs.Math.Bool.{beq}
-use Rattle.dine_forks.proofs.CallerLemmas.{same-side}
 
 -- ---- the task in a seat
 
@@ -68,27 +55,26 @@ module _ (clock : ℕ) (seats : List (Option Seat)) (u : Task) (x : Seat) (h : A
   pub has_end-conflict_of : (r : ForkRecord) → has_end u (conflict_of seats r) ≡ is_end u.slot r
   has_end-conflict_of r = rw (same_task-task_at r.first, same_task-task_at r.second) refl
 
-  -- what a record adds to the messages of the slot's records
-  sum_by-slot_list : (r : ForkRecord) (rs : List ForkRecord) → sum_by (messages_of seats) (slot_list u.slot (r ∷ rs)) ≡ cond (is_end u.slot r) (messages_of seats r) 0 + sum_by (messages_of seats) (slot_list u.slot rs)
-  sum_by-slot_list r rs = elim (cases_Bool (is_end u.slot r)) [ inl e ↦ rw e (sum_by-cons (messages_of seats) r (slot_list u.slot rs)) | inr e ↦ rw e (omega arith) ]
-
-  -- the records of u are settled as the slots tell
-  pub settles_around : (rs : List ForkRecord) → EndsPresent (by_stamp clock seats) (map (conflict_of seats) rs)
-      → SettlesAround u (by_stamp clock seats) (map (conflict_of seats) rs) (forks_of rs) (forks_of (map (settled_at seats u.slot) rs)) (sum_by (messages_of seats) (slot_list u.slot rs))
-  settles_around [] p = refl
-  settles_around (r ∷ rs) p =
-      (cond (is_end u.slot r) (messages_of seats r) 0, sum_by (messages_of seats) (slot_list u.slot rs), sum_by-slot_list r rs, one, settles_around rs p.1)
+  -- a walk of the slot settles the records of u, where their edges were lawful by the state that it had
+  pub settles_around : (r : Reach) (was own : State) → Comes r was own → seat_state seats u.slot ≡ own → (rs : List ForkRecord) → EndsPresent (by_stamp clock seats) (map (conflict_of seats) rs)
+      → list_all (is_lawful_beside was seats u.slot) (slot_list u.slot rs) ≡ true
+      → SettlesAround u (by_stamp clock seats) (map (conflict_of seats) rs) (forks_of rs) (forks_of (map (walked_at r (settles own (seat_state seats)) u.slot) rs))
+      (sum_by (walk_costs r (settling_cost own (seat_state seats)) u.slot) (slot_list u.slot rs))
+  settles_around r was own comes here [] p l = refl
+  settles_around r was own comes here (x ∷ xs) p l =
+      (cond (is_end u.slot x) (cost x) 0, sum_by cost (slot_list u.slot xs), sum-one cost u.slot x xs (is_end u.slot x) refl, one.0, settles_around r was own comes here xs p.1 one.1)
     where
-      one : SettlesEnd u (by_stamp clock seats) (conflict_of seats r) r.fork (settled_at seats u.slot r).fork (cond (is_end u.slot r) (messages_of seats r) 0)
-      one = rw (has_end-conflict_of r) (elim (cases_Bool (is_end u.slot r)) [
-        | inl e ↦ rw (e, state_in-task_at clock seats r.first h p.0.0, state_in-task_at clock seats r.second h p.0.1) (settles-settled r.fork (seat_state seats r.first) (seat_state seats r.second))
-        | inr e ↦ rw e (refl, refl)
-      ])
+      cost : ForkRecord → ℕ
+      cost = walk_costs r (settling_cost own (seat_state seats)) u.slot
 
-  -- u holds all its forks where its slot does
-  pub holds_all-slot_list : (rs : List ForkRecord) → holds_all u (map (conflict_of seats) rs) (forks_of rs) ≡ list_all (holds u.slot) (slot_list u.slot rs)
-  holds_all-slot_list [] = refl
-  holds_all-slot_list (r ∷ rs) = rw (same_task-task_at r.first, same_task-task_at r.second, holds_all-slot_list rs) (elim (cases_Bool (is_end u.slot r)) [ inl e ↦ rw e refl | inr e ↦ rw e refl ])
+      one : SettlesEnd u (by_stamp clock seats) (conflict_of seats x) x.fork (walked_at r (settles own (seat_state seats)) u.slot x).fork (cond (is_end u.slot x) (cost x) 0)
+          × (list_all (is_lawful_beside was seats u.slot) (slot_list u.slot xs) ≡ true)
+      one = elim (cases_Bool (is_end u.slot x)) [
+        | inl e ↦
+            let lawful = and_parts (is_lawful_beside was seats u.slot x) (list_all (is_lawful_beside was seats u.slot) (slot_list u.slot xs)) (rw e at l) in
+            (rw (has_end-conflict_of x) (rw (e, state_in-task_at clock seats x.first h p.0.0, state_in-task_at clock seats x.second h p.0.1) (walk_settles r was own comes seats u.slot here x e lawful.0)), lawful.1)
+        | inr e ↦ (rw (has_end-conflict_of x) (rw e (refl, refl)), rw e at l)
+      ]
 
   -- the forks of u get dirty where those of its slot do
   pub dirtied_around-records : (rs : List ForkRecord) → dirtied_around u (map (conflict_of seats) rs) (forks_of rs) ≡ forks_of (map (dirtied_at u.slot) rs)
@@ -99,6 +85,16 @@ module _ (clock : ℕ) (seats : List (Option Seat)) (u : Task) (x : Seat) (h : A
   pub neighbours_in-records : (rs : List ForkRecord) → neighbours_in (map (conflict_of seats) rs) u ≡ map (neighbour_at seats u.slot) (slot_list u.slot rs)
   neighbours_in-records [] = refl
   neighbours_in-records (r ∷ rs) = grind (arith, same_task-task_at r.first, same_task-task_at r.second, neighbours_in-records rs)
+
+  -- the forks once u has withdrawn are those of the records once its slot has
+  pub withdrawn_around-records : (rs : List ForkRecord) → withdrawn_around u (map (conflict_of seats) rs) (forks_of rs) ≡ forks_of (map (withdrawn_at u.slot) rs)
+  withdrawn_around-records [] = refl
+  withdrawn_around-records (r ∷ rs) = rw (same_task-task_at r.first, same_task-task_at r.second, withdrawn_around-records rs) (elim (cases_Bool (is_end u.slot r)) [ inl e ↦ rw e refl | inr e ↦ rw e refl ])
+
+  -- and so are the messages
+  pub withdrawal_messages-records : (rs : List ForkRecord) → withdrawal_messages_around u (map (conflict_of seats) rs) (forks_of rs) ≡ sum_by (withdrawal_messages_of u.slot) (slot_list u.slot rs)
+  withdrawal_messages-records [] = refl
+  withdrawal_messages-records (r ∷ rs) = grind (arith, same_task-task_at r.first, same_task-task_at r.second, withdrawal_messages-records rs, sum_by-cons (withdrawal_messages_of u.slot) r (slot_list u.slot rs))
 
 -- a conflict is one of two tasks where its record is one of their slots
 pub is_between-conflict_of : (clock : ℕ) (seats : List (Option Seat)) (u v : Task) (x y : Seat) → ArePlaced clock 0 seats → get_or seats u.slot None ≡ Some x → same_task x.diner.task u ≡ true → get_or seats v.slot None ≡ Some y → same_task y.diner.task v ≡ true
@@ -158,51 +154,19 @@ placed_later clock slot [] h = tt
 placed_later clock slot (None ∷ xs) h = (tt, placed_later clock (slot + 1) xs h.1)
 placed_later clock slot (Some seat ∷ xs) h = ((h.0.0, let below : seat.stamp < clock = h.0.1 in omega arith), placed_later clock (slot + 1) xs h.1)
 
--- ---- a walk of a slot gives back what its task does that withdraws: one fork
+-- ---- a task that is present has its seat
 
--- our test of two answers is that of Rust
-same_bool-is : (a b : Bool) → same_bool a b ≡ beq a b
-same_bool-is true true = refl
-same_bool-is true false = refl
-same_bool-is false true = refl
-same_bool-is false false = refl
-
--- the token is one message at most
-token-le : (is_first : Bool) (fork : Fork) → token_messages is_first fork ≤ 1
-token-le is_first fork = grind arith
-
--- a fork and a token at most
-pub withdrawal_messages-le : (is_first : Bool) (fork : Fork) → withdrawal_messages is_first fork ≤ 2
-withdrawal_messages-le is_first fork = grind (arith, token-le is_first fork)
-
--- an end that lacks the fork gets the token
-pub withdrawn-lacks : (is_first : Bool) (fork : Fork) → not (beq fork.at_first is_first) ≡ true → withdrawn is_first fork ≡ with_token is_first fork
-withdrawn-lacks is_first fork lacks = let at : same_bool fork.at_first is_first ≡ false = same_bool-is fork.at_first is_first ∙ not-true (beq fork.at_first is_first) lacks in rw at refl
-
--- a dirty fork stays
-pub withdrawn-dirty : (is_first : Bool) (fork : Fork) → not (beq fork.at_first is_first) ≡ false → fork.dirty ≡ true → withdrawn is_first fork ≡ fork
-withdrawn-dirty is_first fork holds dirty = let at : same_bool fork.at_first is_first ≡ true = same_bool-is fork.at_first is_first ∙ not-false (beq fork.at_first is_first) holds in rw (at, dirty) refl
-
--- and a clean one goes
-pub withdrawn-clean : (is_first : Bool) (fork : Fork) → not (beq fork.at_first is_first) ≡ false → fork.dirty ≡ false → withdrawn is_first fork ≡ given_back_to (not is_first)
-withdrawn-clean is_first fork holds clean =
-    let at : same_bool fork.at_first is_first ≡ true = same_bool-is fork.at_first is_first ∙ not-false (beq fork.at_first is_first) holds in
-    let given : Bool → Bool → Fork = λ a b. record { at_first = not a; dirty = true; token_first = b } in
-    rw (at, clean) (ap (λ a. given a is_first) (same-side fork.at_first is_first (not-false (beq fork.at_first is_first) holds)) ∙ ap (given is_first) (twice is_first))
+-- a task with a state is the task of its seat
+pub seated : (seats : List (Option Seat)) (u : Task) (s : State) → state_at seats u ≡ Some s → (x : Seat) × (get_or seats u.slot None ≡ Some x) × (same_task x.diner.task u ≡ true)
+seated seats u s h = go (get_or seats u.slot None) h
   where
-    twice : (b : Bool) → b ≡ not (not b)
-    twice true = refl
-    twice false = refl
+    go : (o : Option Seat) → state_in_seat u o ≡ Some s → (x : Seat) × (o ≡ Some x) × (same_task x.diner.task u ≡ true)
+    go None k = absurd (let w : None ≡ Some s = k in cc)
+    go (Some x) k = elim (cases_Bool (same_task x.diner.task u)) [
+      | inl e ↦ (x, refl, e)
+      | inr e ↦ absurd (let w : None ≡ Some s = rw e at k in cc)
+    ]
 
--- ---- and those of all records of the slot
-
-module _ (clock : ℕ) (seats : List (Option Seat)) (u : Task) (x : Seat) (h : ArePlaced clock 0 seats) (at : get_or seats u.slot None ≡ Some x) (same : same_task x.diner.task u ≡ true) where
-  -- the forks once u has withdrawn are those of the records once its slot has
-  pub withdrawn_around-records : (rs : List ForkRecord) → withdrawn_around u (map (conflict_of seats) rs) (forks_of rs) ≡ forks_of (map (withdrawn_at u.slot) rs)
-  withdrawn_around-records [] = refl
-  withdrawn_around-records (r ∷ rs) = rw (same_task-task_at clock seats u x h at same r.first, same_task-task_at clock seats u x h at same r.second, withdrawn_around-records rs) (elim (cases_Bool (is_end u.slot r)) [ inl e ↦ rw e refl | inr e ↦ rw e refl ])
-
-  -- and so are the messages
-  pub withdrawal_messages-records : (rs : List ForkRecord) → withdrawal_messages_around u (map (conflict_of seats) rs) (forks_of rs) ≡ sum_by (withdrawal_messages_of u.slot) (slot_list u.slot rs)
-  withdrawal_messages-records [] = refl
-  withdrawal_messages-records (r ∷ rs) = grind (arith, same_task-task_at clock seats u x h at same r.first, same_task-task_at clock seats u x h at same r.second, withdrawal_messages-records rs, sum_by-cons (withdrawal_messages_of u.slot) r (slot_list u.slot rs))
+-- a seat that is taken is one of the seats
+pub in_range : (seats : List (Option Seat)) (i : ℕ) (x : Seat) → get_or seats i None ≡ Some x → i < length seats
+in_range seats i x h = grind (arith, get_or_past seats i None)

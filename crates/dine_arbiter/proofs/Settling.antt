@@ -1,9 +1,6 @@
 -- What is true of each edge, by trying them all: the two rules come to one end, and it is computed.
-use Rattle.std.proofs.Common.{◌≡◌, Bool, true, false, not, ◌&&◌, ◌||◌, sym, ap, ◌∙◌, ℕ, zero, suc, eqb, Option, Some, None, refl, subst, add-one, unwrap_or}
-use Rattle.std.proofs.lemmas.Bool.{and_parts, eqb-true, not-true}
-use Rattle.dine_arbiter.specs.Edge.{State, Thinking, Hungry, Eating, Fork, same_bool, step_of, IsQuiet, ReachedBy, Settles, step_or_stay, settled, one_more, messages_within, messages_left, asks, fork_sent, has_both, holder, is_lawful, requester, token_sent, yields}
-use Rattle.dine_table.specs.Table.{same_state}
-use Rattle.dine_table.proofs.CallerLemmas.{same_state-true}
+use Rattle.dine_arbiter.proofs.Words.{◌≡◌, Bool, true, false, not, ◌&&◌, ◌||◌, sym, ap, ◌∙◌, ℕ, zero, suc, eqb, Option, Some, None, refl, subst, add-one, unwrap_or, and_parts, eqb-true, not-true, Fork, same_bool, step_of, IsQuiet, ReachedBy, Settles, step_or_stay, settled, one_more, messages_within, messages_left, asks, holder, is_lawful, yields, same_state, same_state-true}
+use Rattle.dine_arbiter.specs.Edge.{State, Thinking, Hungry, Eating}
 
 -- a test passes at both answers
 abbrev pub both_bools : (Bool → Bool) → Bool
@@ -138,6 +135,9 @@ settled-is n old new x y reached quiet =
     let all = settles-settled old x y in
     settles_once n (messages_left old x y) old new (settled old x y) x y quiet all.quiet reached all.reached
 
+-- which a walk may cite
+pub ruleset where_quiet = (settled-is)
+
 -- the edge is computed to settle at a fork, with so many messages
 abbrev pub settles_so : Fork → State → State → Fork → ℕ → Bool
 settles_so old x y new n = same_fork (settled old x y) new && eqb (messages_left old x y) n
@@ -181,30 +181,9 @@ second-eater fork x lawful =
     let both = and_parts (not fork.at_first) fork.dirty (each_where (λ f x _ _. is_lawful f x Eating) (λ f _ _ _. not f.at_first && f.dirty) refl fork x x true lawful) in
     (not-true fork.at_first both.0, both.1)
 
--- ---- what is sent where the fork is dirty and the end with the token is hungry
+-- so much is a law
+pub ruleset shapes = (one_rule, lawful-quiet, clean-hungry, first-eater, second-eater)
 
--- the fork is at the end without the token, which is in this state
-abbrev is_asked : State → Fork → State → State → Bool
-is_asked owner f x y = not (has_both f) && f.dirty && same_state Hungry (requester f x y) && same_state owner (holder f x y)
-
--- the one end asks, and the other gives
-pub asked_and_given : (fork : Fork) (x y : State) → has_both fork ≡ false → fork.dirty ≡ true → requester fork x y ≡ Hungry → holder fork x y ≡ Thinking
-    → Settles fork x y (token_sent (fork_sent fork)) 2
-unfolding messages_left
-asked_and_given fork x y apart is_dirty asks owns =
-    settles_by fork (token_sent (fork_sent fork)) x y 2 (each_where (λ f x y _. is_asked Thinking f x y) (λ f x y _. settles_so f x y (token_sent (fork_sent f)) 2) refl
-    fork x y true (rw (apart, is_dirty, asks, owns) refl))
-
--- the one end asks, the other gives and asks in turn
-pub crosses : (fork : Fork) (x y : State) → has_both fork ≡ false → fork.dirty ≡ true → requester fork x y ≡ Hungry → holder fork x y ≡ Hungry → Settles fork x y (fork_sent fork) 3
-unfolding messages_left
-crosses fork x y apart is_dirty asks owns =
-    settles_by fork (fork_sent fork) x y 3 (each_where (λ f x y _. is_asked Hungry f x y) (λ f x y _. settles_so f x y (fork_sent f) 3) refl
-    fork x y true (rw (apart, is_dirty, asks, owns) refl))
-
--- the one end gives, and asks in turn
-pub given_and_asked : (fork : Fork) (x y : State) → has_both fork ≡ true → fork.dirty ≡ true → requester fork x y ≡ Hungry → Settles fork x y (token_sent (fork_sent fork)) 2
-unfolding messages_left
-given_and_asked fork x y both is_dirty asks =
-    settles_by fork (token_sent (fork_sent fork)) x y 2 (each_where (λ f x y _. has_both f && f.dirty && same_state Hungry (requester f x y))
-    (λ f x y _. settles_so f x y (token_sent (fork_sent f)) 2) refl fork x y true (rw (both, is_dirty, asks) refl))
+-- what two ends send brings their edge to rest, where it does so at each edge that passes a test
+pub sends : (p : Fork → State → State → Bool) (sent : Fork → Fork) (n : ℕ) → all_edges (λ f x y _. implies (p f x y) (settles_so f x y (sent f) n)) ≡ true → (f : Fork) (x y : State) → p f x y ≡ true → Settles f x y (sent f) n
+sends p sent n h f x y passes = settles_by f (sent f) x y n (each_where (λ f x y _. p f x y) (λ f x y _. settles_so f x y (sent f) n) h f x y true passes)

@@ -1,181 +1,206 @@
--- What the walks of a slot bring to rest. A task that grows hungry asks for the forks that it lacks: where its edges are lawful,
--- it has the request token of each, and what their holders answer settles them. One that has eaten holds all of its forks,
--- dirty, and gives up those that it is asked for.
-use Rattle.std.proofs.Common.{◌≡◌, ◌≢◌, ℕ, Bool, true, ◌&&◌, ◌||◌, cond, eqb, List, [], ◌∷◌, map, Option, inl, inr, refl, sym, ◌∙◌, arith, ap, ◌+◌, false, not, length}
-use Rattle.std.specs.List.{list_all, sum_by, AllByRecursion, filter}
-use Rattle.std.proofs.lemmas.Bool.{and_parts, cases_Bool}
-use Rattle.std.proofs.lemmas.List.Sums.{sum_by-cons}
-use Rattle.dine_forks.specs.declared.ask.Response.{Response}
-use Rattle.dine_forks.specs.Asking.{answer_messages, answered, asked_at, asked_fork, asking_messages, can_ask}
-use Rattle.dine_forks.specs.Book.{EndsAreSlots, is_end, slot_list, sent_to, dirtied}
-use Rattle.dine_arbiter.specs.Edge.{is_lawful, messages_left, same_bool, settled}
-use Rattle.dine_arbiter.specs.Records.{Fork, ForkRecord, answer_in, answers_of}
-use Rattle.dine_arbiter.proofs.SlotEdges.{is_lawful_beside, messages_of, settled_at, settled_fork}
-use Rattle.dine_arbiter.specs.Seats.{State, Thinking, Hungry, Seat, seat_state, Eating}
-use Rattle.dine_arbiter.proofs.Settling.{each_where}
-use Rattle.dine_arbiter.proofs.Settling.{settles_so, settles_so-true}
-use Rattle.dine_arbiter.proofs.SlotEdges.{first_state, second_state, lawful_by_states, states-are}
-use Rattle.dine_forks.specs.Held.{is_holder, requester, is_asked_of, given_up_at, given_up_fork}
+-- What the walks of a slot bring to rest. A task that grows hungry has nothing to send for the forks that it has, where its
+-- edges are lawful, and one that has eaten has nothing to send for those that nobody asked for. So a walk of the others settles
+-- all of its edges.
+use Rattle.dine_arbiter.proofs.Words.{◌≡◌, ◌≢◌, ℕ, suc, ◌+◌, ◌*◌, ◌==◌, Bool, true, false, not, ◌||◌, if◌then◌else◌, length, arith, cond, eqb, List, [], ◌∷◌, map, Option, inl, inr, refl, subst, sym, ap, AllByRecursion, filter, list_all, sum_by, and_parts, cases_Bool, eqb-true, nat_tests, sum_by-cons, Reach, is_end, other_end, slot_list, met-anyhow, is_met_at, is_reached, is_reached_at, walked_at, walked_fork, is_asked, lacks, one_if, is_asked_of, is_non_holder, Settles, is_lawful, messages_left, settled, withdrawal_messages, withdrawn, ForkRecord, withdrawal_messages_of, withdrawn_at, has_dirty_pair, has_token_alone, settles, State, Thinking, Hungry, Seat, seat_state, Eating}
+use Rattle.dine_forks.specs.declared.rules.Reach.TheVariants as reach
+use Rattle.dine_arbiter.specs.Records.{Fork}
+use Rattle.dine_arbiter.proofs.SlotEdges.{is_lawful_beside, first_state, second_state, states-are}
+use Rattle.dine_arbiter.proofs.Settling.{each_where, settles_by, settles_so}
 
--- where the walk of a slot knows the state of its end, what settles an edge by that settles it by the states of the seats
-settled_by_seats : (seats : List (Option Seat)) (slot : ℕ) (s : State) → seat_state seats slot ≡ s → (r : ForkRecord) (f : Fork) (n : ℕ) → is_end slot r ≡ true
-    → settles_so r.fork (first_state seats slot s r) (second_state seats slot s r) f n ≡ true → (f ≡ settled_fork seats r) × (n ≡ messages_of seats r)
-settled_by_seats seats slot s at r f n end settles =
-    let so = settles_so-true r.fork f (first_state seats slot s r) (second_state seats slot s r) n settles in
-    let states = states-are seats slot s r at end in (
-      so.0 ∙ ap (λ x. settled r.fork x (second_state seats slot s r)) states.0 ∙ ap (settled r.fork (seat_state seats r.first)) states.1,
-      so.1 ∙ ap (λ x. messages_left r.fork x (second_state seats slot s r)) states.0 ∙ ap (messages_left r.fork (seat_state seats r.first)) states.1,
-    )
+-- the messages of a record that a walk of a slot reaches, if each costs so many
+abbrev pub walk_costs : Reach → (Bool → ℕ → Fork → ℕ) → ℕ → ForkRecord → ℕ
+walk_costs reach costs slot r = if is_reached_at reach slot r then costs (slot == r.first) (other_end slot r) r.fork else 0
 
--- ---- an edge that was lawful while the one end was thinking, which is hungry now
+-- the messages until an edge is quiet, of which the task in the own state is the first end or the second
+abbrev pub settling_cost : State → (ℕ → State) → Bool → ℕ → Fork → ℕ
+settling_cost own states first other fork = if first then messages_left fork own (states other) else messages_left fork (states other) own
 
--- what the fork comes to: the end that grows hungry has it, or the other end answers
-abbrev fork_asked : Bool → Response → Fork → Fork
-fork_asked is_first answer f = cond (same_bool f.at_first is_first) f (answered answer f)
+-- ---- one edge, whose one end is in another state now
+
+-- what becomes of its fork: it is settled where the walk has to do with it
+abbrev pub come : Reach → State → Bool → Fork → State → State → Fork
+come r own s f x y = cond (is_reached r s f) (settled f (cond s own x) (cond s y own)) f
 
 -- the messages of that
-abbrev messages_asked : Bool → Response → Fork → ℕ
-messages_asked is_first answer f = cond (same_bool f.at_first is_first) 0 (answer_messages answer f)
+abbrev pub come_cost : Reach → State → Bool → Fork → State → State → ℕ
+come_cost r own s f x y = cond (is_reached r s f) (messages_left f (cond s own x) (cond s y own)) 0
 
--- whichever end it is, this settles the edge, and that end has the fork or the token
-settles_asking : (f : Fork) (x y : State) (is_first : Bool) → is_lawful f (cond is_first Thinking x) (cond is_first y Thinking) ≡ true
-    → (settles_so f (cond is_first Hungry x) (cond is_first y Hungry) (fork_asked is_first (cond is_first (answer_in y) (answer_in x)) f) (messages_asked is_first (cond is_first (answer_in y) (answer_in x)) f)
-    && (same_bool f.at_first is_first || same_bool f.token_first is_first)) ≡ true
+-- the edge is settled so where it was lawful while the end was in another state
+abbrev pub Comes : Reach → State → State → Type 0
+Comes r was own =
+    (f : Fork) (x y : State) (s : Bool) → is_lawful f (cond s was x) (cond s y was) ≡ true
+    → settles_so f (cond s own x) (cond s y own) (come r own s f x y) (come_cost r own s f x y) ≡ true
+
+-- the end was thinking, and is hungry now
+pub hunger_comes : Comes reach.Lacked Thinking Hungry
 unfolding messages_left
-settles_asking =
+hunger_comes =
     each_where (λ f x y s. is_lawful f (cond s Thinking x) (cond s y Thinking))
-    (λ f x y s. settles_so f (cond s Hungry x) (cond s y Hungry) (fork_asked s (cond s (answer_in y) (answer_in x)) f) (messages_asked s (cond s (answer_in y) (answer_in x)) f)
-    && (same_bool f.at_first s || same_bool f.token_first s)) refl
+    (λ f x y s. settles_so f (cond s Hungry x) (cond s y Hungry) (come reach.Lacked Hungry s f x y) (come_cost reach.Lacked Hungry s f x y)) refl
 
--- ---- one record of the slot
-
--- the slot is the holder of a fork at its end
-asks_as_end : (answers : ℕ → Response) (slot : ℕ) (r : ForkRecord) → r.first ≢ r.second → is_end slot r ≡ true
-    → (asked_fork answers slot r ≡ fork_asked (eqb slot r.first) (cond (eqb slot r.first) (answers r.second) (answers r.first)) r.fork)
-    × (asking_messages answers slot r ≡ messages_asked (eqb slot r.first) (cond (eqb slot r.first) (answers r.second) (answers r.first)) r.fork)
-asks_as_end answers slot r differ end = (grind arith, grind arith)
-
--- whoever has the fork or the token can ask
-can_end : (slot : ℕ) (r : ForkRecord) → is_end slot r ≡ true → (same_bool r.fork.at_first (eqb slot r.first) || same_bool r.fork.token_first (eqb slot r.first)) ≡ true → can_ask slot r ≡ true
-can_end slot r end h = grind arith
-
-module _ (seats : List (Option Seat)) (slot : ℕ) where
-  -- what the other end of a record answers
-  abbrev answer : ForkRecord → Response
-  answer r = cond (eqb slot r.first) (answers_of seats r.second) (answers_of seats r.first)
-
-  -- the edge of a record settles where it is asked for its fork, and the slot has that or the token
-  settles_record : (r : ForkRecord) → is_lawful_beside Thinking seats slot r ≡ true
-      → (settles_so r.fork (first_state seats slot Hungry r) (second_state seats slot Hungry r) (fork_asked (eqb slot r.first) (answer r) r.fork) (messages_asked (eqb slot r.first) (answer r) r.fork) ≡ true)
-      × ((same_bool r.fork.at_first (eqb slot r.first) || same_bool r.fork.token_first (eqb slot r.first)) ≡ true)
-  settles_record r lawful =
-      and_parts (settles_so r.fork (first_state seats slot Hungry r) (second_state seats slot Hungry r) (fork_asked (eqb slot r.first) (answer r) r.fork) (messages_asked (eqb slot r.first) (answer r) r.fork)) _
-      (settles_asking r.fork (seat_state seats r.first) (seat_state seats r.second) (eqb slot r.first) (sym (lawful_by_states seats slot Thinking r) ∙ lawful))
-
-  -- so a task that was thinking can ask for all of its forks
-  pub all_can : (rs : List ForkRecord) → list_all (is_lawful_beside Thinking seats slot) (slot_list slot rs) ≡ true → list_all (can_ask slot) (slot_list slot rs) ≡ true
-  all_can [] h = refl
-  all_can (x ∷ xs) h = grind (arith, all_can xs, can_end slot x, settles_record x)
-
-  module _ (hungry : seat_state seats slot ≡ Hungry) where
-    -- what is told of a record that is asked for its fork
-    record Asks (r : ForkRecord) : Type 0 where
-      fork : asked_fork (answers_of seats) slot r ≡ settled_fork seats r
-      messages : asking_messages (answers_of seats) slot r ≡ messages_of seats r
-
-    -- so of each record of the slot
-    asks : (r : ForkRecord) → r.first ≢ r.second → is_end slot r ≡ true → is_lawful_beside Thinking seats slot r ≡ true → Asks r
-    asks r differ end lawful =
-        let so = settled_by_seats seats slot Hungry hungry r (fork_asked (eqb slot r.first) (answer r) r.fork) (messages_asked (eqb slot r.first) (answer r) r.fork) end (settles_record r lawful).0 in
-        let is = asks_as_end (answers_of seats) slot r differ end in
-        record { fork = is.0 ∙ so.0; messages = is.1 ∙ so.1 }
-
-    -- ---- all of them
-
-    -- what is told of the records of a list
-    pub record AllAsk (rs : List ForkRecord) : Type 0 where
-      pub records : map (asked_at (answers_of seats) slot) rs ≡ map (settled_at seats slot) rs
-      pub messages : sum_by (asking_messages (answers_of seats) slot) (slot_list slot rs) ≡ sum_by (messages_of seats) (slot_list slot rs)
-
-    -- so of those of a book
-    pub all_ask : (slots : ℕ) (rs : List ForkRecord) → EndsAreSlots slots rs → list_all (is_lawful_beside Thinking seats slot) (slot_list slot rs) ≡ true → AllAsk rs
-    all_ask slots [] ends h = record { records = refl; messages = refl }
-    all_ask slots (x ∷ xs) ends h = elim (cases_Bool (is_end slot x)) [
-      | inl e ↦
-          let lawful = and_parts (is_lawful_beside Thinking seats slot x) (list_all (is_lawful_beside Thinking seats slot) (slot_list slot xs)) (rw e at h) in
-          let one = asks x ends.0 e lawful.0 in
-          let rest = all_ask slots xs ends.3 lawful.1 in
-          record {
-            records = rw (e, one.fork, rest.records) refl;
-            messages = rw (e, sum_by-cons (asking_messages (answers_of seats) slot) x (slot_list slot xs), one.messages, rest.messages) (sym (sum_by-cons (messages_of seats) x (slot_list slot xs)));
-          }
-      | inr e ↦
-          let rest = all_ask slots xs ends.3 (rw e at h) in
-          record { records = rw (e, rest.records) refl; messages = rw e rest.messages }
-    ]
-
--- ---- an edge that was lawful while the one end ate, which is thinking now
-
--- the fork once its holder has eaten: sent where it is asked for, and else dirty
-abbrev given : Bool → Fork → Fork
-given asked fork = cond asked (sent_to (not fork.at_first) fork) (dirtied fork)
-
--- the messages of that
-abbrev one_if : Bool → ℕ
-one_if asked = cond asked 1 0
-
--- whichever end has eaten has the fork, and this settles the edge
-settles_giving : (f : Fork) (x y : State) (is_first : Bool) → is_lawful f (cond is_first Eating x) (cond is_first y Eating) ≡ true
-    → (same_bool f.at_first is_first && settles_so f (cond is_first Thinking x) (cond is_first y Thinking) (given (same_bool f.token_first is_first) f) (one_if (same_bool f.token_first is_first))) ≡ true
+-- it was eating, and thinks now
+pub finish_comes : Comes reach.Asked Eating Thinking
 unfolding messages_left
-settles_giving =
+finish_comes =
     each_where (λ f x y s. is_lawful f (cond s Eating x) (cond s y Eating))
-    (λ f x y s. same_bool f.at_first s && settles_so f (cond s Thinking x) (cond s y Thinking) (given (same_bool f.token_first s) f) (one_if (same_bool f.token_first s))) refl
+    (λ f x y s. settles_so f (cond s Thinking x) (cond s y Thinking) (come reach.Asked Thinking s f x y) (come_cost reach.Asked Thinking s f x y)) refl
 
--- a slot with the fork at its end is its holder, and one with the token its requester
-gives_as_end : (slot : ℕ) (r : ForkRecord) → r.first ≢ r.second → is_end slot r ≡ true
-    → (same_bool r.fork.at_first (eqb slot r.first) ≡ is_holder slot r) × (same_bool r.fork.token_first (eqb slot r.first) ≡ eqb slot (requester r))
-gives_as_end slot r differ end = (grind arith, grind arith)
+-- the forks of a slot come to what a walk makes of them, at so many messages
+walked-come : (r : Reach) (own : State) (seats : List (Option Seat)) (slot : ℕ) (x : ForkRecord) → let s = eqb slot x.first in let first = seat_state seats x.first in let second = seat_state seats x.second in
+    (walked_fork r (settles own (seat_state seats)) slot x ≡ come r own s x.fork first second) × (walk_costs r (settling_cost own (seat_state seats)) slot x ≡ come_cost r own s x.fork first second)
+walked-come r own seats slot x = elim (cases_Bool (eqb slot x.first)) [ inl e ↦ rw e (refl, refl) | inr e ↦ rw e (refl, refl) ]
 
--- a slot that is no end of a record doesn't hold its fork
-not-holder : (slot : ℕ) (r : ForkRecord) → is_end slot r ≡ false → is_holder slot r ≡ false
-not-holder slot r h = grind arith
+-- a record of the slot whose edge was lawful settles at what the walk makes of it, at what that costs
+pub walk_settles : (r : Reach) (was own : State) → Comes r was own → (seats : List (Option Seat)) (slot : ℕ) → seat_state seats slot ≡ own → (x : ForkRecord) → is_end slot x ≡ true → is_lawful_beside was seats slot x ≡ true
+    → Settles x.fork (seat_state seats x.first) (seat_state seats x.second) (walked_fork r (settles own (seat_state seats)) slot x) (walk_costs r (settling_cost own (seat_state seats)) slot x)
+walk_settles r was own comes seats slot here x end lawful =
+    let first = seat_state seats x.first in let second = seat_state seats x.second in let s = eqb slot x.first in
+    let f = come r own s x.fork first second in let n = come_cost r own s x.fork first second in
+    let so = settles_by x.fork f (first_state own seats slot x) (second_state own seats slot x) n (comes x.fork first second s lawful) in
+    let states = states-are own seats slot x here end in let is = walked-come r own seats slot x in
+    rw (is.0, is.1) (subst (λ a. Settles x.fork a second f n) states.0 (subst (λ b. Settles x.fork (first_state own seats slot x) b f n) states.1 so))
 
--- what is asked of a list counts what is asked of its first record
-count : (slot : ℕ) (r : ForkRecord) (rs : List ForkRecord) → is_holder slot r ≡ true → length (filter (is_asked_of slot) (r ∷ rs)) ≡ one_if (eqb slot (requester r)) + length (filter (is_asked_of slot) rs)
-count slot r rs held = elim (cases_Bool (eqb slot (requester r))) [ inl e ↦ rw (held, e) (omega arith) | inr e ↦ rw (held, e) (omega arith) ]
+-- ---- what a walk tells by its counts
 
-module _ (seats : List (Option Seat)) (slot : ℕ) (thinks : seat_state seats slot ≡ Thinking) where
-  -- the slot gives up the fork of one of its records
-  record Gives (r : ForkRecord) : Type 0 where
-    holds : is_holder slot r ≡ true
-    fork : given_up_fork slot r ≡ settled_fork seats r
-    messages : one_if (eqb slot (requester r)) ≡ messages_of seats r
+-- who has grown hungry sends a token for each fork that it lacked, gets the fork where it lacks it no more, and the token where it is
+-- asked for it then
+hunger_tells : (f : Fork) (x y : State) (s : Bool) → is_lawful f (cond s Thinking x) (cond s y Thinking) ≡ true
+    → (2 * one_if (lacks s f) + one_if (is_asked s (come reach.Lacked Hungry s f x y)) == come_cost reach.Lacked Hungry s f x y + one_if (lacks s (come reach.Lacked Hungry s f x y)) + one_if (is_asked s f)) ≡ true
+unfolding messages_left
+hunger_tells =
+    each_where (λ f x y s. is_lawful f (cond s Thinking x) (cond s y Thinking))
+    (λ f x y s. 2 * one_if (lacks s f) + one_if (is_asked s (come reach.Lacked Hungry s f x y)) == come_cost reach.Lacked Hungry s f x y + one_if (lacks s (come reach.Lacked Hungry s f x y)) + one_if (is_asked s f)) refl
 
-  -- so of each whose edge is lawful
-  gives : (r : ForkRecord) → is_end slot r ≡ true → r.first ≢ r.second → is_lawful_beside Eating seats slot r ≡ true → Gives r
-  gives r end differ lawful =
-      let s = eqb slot r.first in
-      let asked = same_bool r.fork.token_first s in
-      let all = and_parts (same_bool r.fork.at_first s) (settles_so r.fork (first_state seats slot Thinking r) (second_state seats slot Thinking r) (given asked r.fork) (one_if asked))
-      (settles_giving r.fork (seat_state seats r.first) (seat_state seats r.second) s (sym (lawful_by_states seats slot Eating r) ∙ lawful)) in
-      let so = settled_by_seats seats slot Thinking thinks r (given asked r.fork) (one_if asked) end all.1 in
-      let is = gives_as_end slot r differ end in
-      record { holds = sym is.0 ∙ all.0; fork = ap (λ b. given b r.fork) (sym is.1) ∙ so.0; messages = ap one_if (sym is.1) ∙ so.1 }
+-- who has eaten sends each fork that it was asked for
+finish_tells : (f : Fork) (x y : State) (s : Bool) → is_lawful f (cond s Eating x) (cond s y Eating) ≡ true → (come_cost reach.Asked Thinking s f x y == one_if (is_asked s f)) ≡ true
+unfolding messages_left
+finish_tells =
+    each_where (λ f x y s. is_lawful f (cond s Eating x) (cond s y Eating))
+    (λ f x y s. come_cost reach.Asked Thinking s f x y == one_if (is_asked s f)) refl
 
-  -- so for all of its records, and for no others
-  pub gives_up : (rs : List ForkRecord) → AllByRecursion (λ (r : ForkRecord). r.first ≢ r.second) rs → list_all (is_lawful_beside Eating seats slot) (slot_list slot rs) ≡ true
-      → (map (given_up_at slot) rs ≡ map (settled_at seats slot) rs) × (length (filter (is_asked_of slot) rs) ≡ sum_by (messages_of seats) (slot_list slot rs))
-  gives_up [] differ lawful = (refl, refl)
-  gives_up (r ∷ rs) differ lawful = elim (cases_Bool (is_end slot r)) [
-    | inl e ↦
-        let parts = and_parts (is_lawful_beside Eating seats slot r) (list_all (is_lawful_beside Eating seats slot) (slot_list slot rs)) (rw e at lawful) in
-        let here = gives r e differ.0 parts.0 in
-        let rest = gives_up rs differ.1 parts.1 in (
-          rw (e, here.holds, here.fork, rest.0) refl,
-          count slot r rs here.holds ∙ rw (here.messages, rest.1, e) (sym (sum_by-cons (messages_of seats) r (slot_list slot rs))),
-        )
-    | inr e ↦
-        let rest = gives_up rs differ.1 (rw e at lawful) in
-        (rw (e, not-holder slot r e, rest.0) refl, rw (e, not-holder slot r e) rest.1)
-  ]
+-- who withdraws gets the token of each fork that it lacked, and sends the forks that it lacks more, each with its token where it hadn't it
+withdrawal_tells : (f : Fork) (x y : State) (s : Bool) → is_lawful f (cond s Hungry x) (cond s y Hungry) ≡ true
+    → (2 * one_if (lacks s (withdrawn s f)) + one_if (is_asked s (withdrawn s f)) == withdrawal_messages s f + one_if (lacks s f) + one_if (is_asked s f)) ≡ true
+withdrawal_tells =
+    each_where (λ f x y s. is_lawful f (cond s Hungry x) (cond s y Hungry))
+    (λ f x y s. 2 * one_if (lacks s (withdrawn s f)) + one_if (is_asked s (withdrawn s f)) == withdrawal_messages s f + one_if (lacks s f) + one_if (is_asked s f)) refl
+
+-- ---- what a walk meets
+
+-- the fork of an edge that was lawful while the end was in another state is such as the walk meets
+abbrev pub Meets : Reach → State → (Bool → Fork → Bool) → Type 0
+Meets r was meets = (f : Fork) (x y : State) (s : Bool) → is_lawful f (cond s was x) (cond s y was) ≡ true → (meets s f || not (is_reached r s f)) ≡ true
+
+-- so it is of one who was thinking, and is hungry now
+pub hunger_meets : Meets reach.Lacked Thinking has_token_alone
+hunger_meets = each_where (λ f x y s. is_lawful f (cond s Thinking x) (cond s y Thinking)) (λ f x y s. has_token_alone s f || not (is_reached reach.Lacked s f)) refl
+
+-- and of one who was eating
+pub finish_meets : Meets reach.Asked Eating has_dirty_pair
+finish_meets = each_where (λ f x y s. is_lawful f (cond s Eating x) (cond s y Eating)) (λ f x y s. has_dirty_pair s f || not (is_reached reach.Asked s f)) refl
+
+-- so are all of a slot
+pub all_met : (r : Reach) (was : State) (meets : Bool → Fork → Bool) → Meets r was meets → (seats : List (Option Seat)) (slot : ℕ) (rs : List ForkRecord) → list_all (is_lawful_beside was seats slot) rs ≡ true
+    → list_all (is_met_at r meets slot) rs ≡ true
+all_met r was meets met seats slot [] h = refl
+all_met r was meets met seats slot (x ∷ xs) h =
+    let lawful = and_parts (is_lawful_beside was seats slot x) (list_all (is_lawful_beside was seats slot) xs) h in
+    let here = met x.fork (seat_state seats x.first) (seat_state seats x.second) (eqb slot x.first) lawful.0 in
+    rw (here, all_met r was meets met seats slot xs lawful.1) refl
+
+-- one who withdraws meets all
+pub withdrawal_meets : (slot : ℕ) (rs : List ForkRecord) → list_all (is_met_at reach.All (λ first fork. true) slot) rs ≡ true
+withdrawal_meets slot rs = met-anyhow reach.All (λ first fork. true) slot (λ first fork. refl) rs
+
+-- ---- what the counts of a slot tell of the messages
+
+-- a record of a slot lacks its fork there, or is asked for it, as the fork tells of that end
+at-slot : (slot : ℕ) (r : ForkRecord) → is_end slot r ≡ true → r.first ≢ r.second → (is_non_holder slot r ≡ lacks (eqb slot r.first) r.fork) × (is_asked_of slot r ≡ is_asked (eqb slot r.first) r.fork)
+at-slot slot r end differ = (grind (arith, nat_tests), grind (arith, nat_tests))
+
+-- and one of other slots is counted nowhere
+off-slot : (slot : ℕ) (r : ForkRecord) → is_end slot r ≡ false → (is_non_holder slot r ≡ false) × (is_asked_of slot r ≡ false)
+off-slot slot r off = (grind (arith, nat_tests), grind (arith, nat_tests))
+
+-- one more passes where the first does
+filter-one : (p : ForkRecord → Bool) (x : ForkRecord) (xs : List ForkRecord) → length (filter p (x ∷ xs)) ≡ one_if (p x) + length (filter p xs)
+filter-one p x xs = elim (cases_Bool (p x)) [ inl e ↦ rw e (omega arith) | inr e ↦ rw e (omega arith) ]
+
+-- the messages of the records of a slot, with one more that is the slot's or isn't
+pub sum-one : (cost : ForkRecord → ℕ) (slot : ℕ) (x : ForkRecord) (xs : List ForkRecord) (b : Bool) → is_end slot x ≡ b → sum_by cost (slot_list slot (x ∷ xs)) ≡ (if b then cost x else 0) + sum_by cost (slot_list slot xs)
+sum-one cost slot x xs true e = rw e (sum_by-cons cost x (slot_list slot xs))
+sum-one cost slot x xs false e = rw e (sym (plus-zero (sum_by cost (slot_list slot xs))))
+  where
+    -- nothing is added
+    plus-zero : (n : ℕ) → 0 + n ≡ n
+    plus-zero n = omega arith
+
+-- what holds of one record and of the others holds of all, as twice a number and another come to three
+add-up : {L A S M B : ℕ} (l a s m b l' a' s' m' b' : ℕ) → L ≡ l + l' → A ≡ a + a' → S ≡ s + s' → M ≡ m + m' → B ≡ b + b' → 2 * l + a ≡ s + m + b → 2 * l' + a' ≡ s' + m' + b' → 2 * L + A ≡ S + M + B
+add-up l a s m b l' a' s' m' b' L A S M B here rest = omega (arith, L, A, S, M, B, here, rest)
+
+-- what a test finds among changed records it finds by the change
+count-changed : (p : ForkRecord → Bool) (change : ForkRecord → ForkRecord) (rs : List ForkRecord) → length (filter p (map change rs)) ≡ length (filter (λ r. p (change r)) rs)
+count-changed p change [] = refl
+count-changed p change (x ∷ xs) = elim (cases_Bool (p (change x))) [ inl e ↦ rw e (ap suc (count-changed p change xs)) | inr e ↦ rw e (count-changed p change xs) ]
+
+-- what holds of each record of a slot, and of others at no cost, holds of all: those who pass one test twice and those who pass another
+-- come to three
+reckoned : (slot : ℕ) (l a m b lawful : ForkRecord → Bool) (cost : ForkRecord → ℕ)
+    → ((x : ForkRecord) → is_end slot x ≡ true → x.first ≢ x.second → lawful x ≡ true → 2 * one_if (l x) + one_if (a x) ≡ cost x + one_if (m x) + one_if (b x))
+    → ((x : ForkRecord) → is_end slot x ≡ false → 2 * one_if (l x) + one_if (a x) ≡ 0 + one_if (m x) + one_if (b x))
+    → (rs : List ForkRecord) → AllByRecursion (λ (r : ForkRecord). r.first ≢ r.second) rs → list_all lawful (slot_list slot rs) ≡ true
+    → 2 * length (filter l rs) + length (filter a rs) ≡ sum_by cost (slot_list slot rs) + length (filter m rs) + length (filter b rs)
+reckoned slot l a m b lawful cost on off [] differ h = refl
+reckoned slot l a m b lawful cost on off (x ∷ xs) differ h = elim (cases_Bool (is_end slot x)) [
+  | inl e ↦
+      let both = and_parts (lawful x) (list_all lawful (slot_list slot xs)) (rw e at h) in
+      add-up _ _ _ _ _ _ _ _ _ _ (filter-one l x xs) (filter-one a x xs) (sum-one cost slot x xs true e) (filter-one m x xs) (filter-one b x xs) (on x e differ.0 both.0)
+      (reckoned slot l a m b lawful cost on off xs differ.1 both.1)
+  | inr e ↦
+      add-up _ _ _ _ _ _ _ _ _ _ (filter-one l x xs) (filter-one a x xs) (sum-one cost slot x xs false e) (filter-one m x xs) (filter-one b x xs) (off x e)
+      (reckoned slot l a m b lawful cost on off xs differ.1 (rw e at h))
+]
+
+module _ (seats : List (Option Seat)) (slot : ℕ) (rs : List ForkRecord) (differ : AllByRecursion (λ (r : ForkRecord). r.first ≢ r.second) rs) where
+  -- the messages of one who has grown hungry, by its counts before and after
+  pub hunger-reckoned : list_all (is_lawful_beside Thinking seats slot) (slot_list slot rs) ≡ true
+      → let after = map (walked_at reach.Lacked (settles Hungry (seat_state seats)) slot) rs in
+      2 * length (filter (is_non_holder slot) rs) + length (filter (is_asked_of slot) after)
+      ≡ sum_by (walk_costs reach.Lacked (settling_cost Hungry (seat_state seats)) slot) (slot_list slot rs) + length (filter (is_non_holder slot) after) + length (filter (is_asked_of slot) rs)
+  hunger-reckoned h =
+      let change = walked_at reach.Lacked (settles Hungry (seat_state seats)) slot in
+      rw (count-changed (is_asked_of slot) change rs, count-changed (is_non_holder slot) change rs)
+      (reckoned slot (is_non_holder slot) (λ r. is_asked_of slot (change r)) (λ r. is_non_holder slot (change r)) (is_asked_of slot) (is_lawful_beside Thinking seats slot) _
+      (λ x e apart lawful.
+      let y : ForkRecord = record { id = x.id; first = x.first; second = x.second; fork = walked_fork reach.Lacked (settles Hungry (seat_state seats)) slot x } in
+      let is = at-slot slot x e apart in let now = at-slot slot y e apart in let comes = walked-come reach.Lacked Hungry seats slot x in
+      rw e (rw (is.0, is.1, now.0, now.1, comes.0, comes.1) (eqb-true _ _ (hunger_tells x.fork (seat_state seats x.first) (seat_state seats x.second) (eqb slot x.first) lawful))))
+      (λ x e. let none = off-slot slot x e in rw (e, none.0, none.1) refl) rs differ h)
+
+  -- the messages of one who has eaten: it sends each fork that it was asked for
+  pub finish-reckoned : list_all (is_lawful_beside Eating seats slot) (slot_list slot rs) ≡ true
+      → length (filter (is_asked_of slot) rs) ≡ sum_by (walk_costs reach.Asked (settling_cost Thinking (seat_state seats)) slot) (slot_list slot rs)
+  finish-reckoned h =
+      let asked = is_asked_of slot in
+      let thrice = reckoned slot asked asked asked asked (is_lawful_beside Eating seats slot) (walk_costs reach.Asked (settling_cost Thinking (seat_state seats)) slot)
+      (λ x e apart lawful.
+      let is = at-slot slot x e apart in let comes = walked-come reach.Asked Thinking seats slot x in
+      let told = eqb-true _ _ (finish_tells x.fork (seat_state seats x.first) (seat_state seats x.second) (eqb slot x.first) lawful) in
+      rw (is.1, comes.1, told) (omega arith))
+      (λ x e. let none = off-slot slot x e in rw none.1 refl) rs differ h in
+      omega arith
+
+  -- the messages of one who has withdrawn, by its counts before and after
+  pub withdrawal-reckoned : list_all (is_lawful_beside Hungry seats slot) (slot_list slot rs) ≡ true
+      → let after = map (withdrawn_at slot) rs in
+      2 * length (filter (is_non_holder slot) after) + length (filter (is_asked_of slot) after)
+      ≡ sum_by (withdrawal_messages_of slot) (slot_list slot rs) + length (filter (is_non_holder slot) rs) + length (filter (is_asked_of slot) rs)
+  withdrawal-reckoned h =
+      rw (count-changed (is_asked_of slot) (withdrawn_at slot) rs, count-changed (is_non_holder slot) (withdrawn_at slot) rs)
+      (reckoned slot (λ r. is_non_holder slot (withdrawn_at slot r)) (λ r. is_asked_of slot (withdrawn_at slot r)) (is_non_holder slot) (is_asked_of slot) (is_lawful_beside Hungry seats slot) _
+      (λ x e apart lawful.
+      let y : ForkRecord = record { id = x.id; first = x.first; second = x.second; fork = withdrawn (eqb slot x.first) x.fork } in
+      let is = at-slot slot x e apart in let now = at-slot slot y e apart in
+      rw e (rw (is.0, is.1, now.0, now.1) (eqb-true _ _ (withdrawal_tells x.fork (seat_state seats x.first) (seat_state seats x.second) (eqb slot x.first) lawful))))
+      (λ x e. let none = off-slot slot x e in rw (e, none.0, none.1) refl) rs differ h)

@@ -1,12 +1,7 @@
 -- What one step of a walk over the records of a slot leaves, and what records that are taken out one by one do.
-use Rattle.std.proofs.Common.{◌≡◌, ℕ, ◌+◌, Bool, true, false, not, List, [], ◌∷◌, length, Some, None, is_some, inl, inr, refl, sym, ap, ◌∙◌, subst, arith, ◌<◌, Option}
-use Rattle.std.specs.List.{list_any, filter}
-use Rattle.std.proofs.lemmas.Bool.{cases_Bool, or_parts}
-use Rattle.std.proofs.lemmas.Bool.Decides.{nat_tests}
-use Rattle.dine_forks.specs.Book.{EachIdOnce, EachPairOnce, has_id, is_end, is_between, is_in_use, are_joined, slot_list, first_id, without, ForkBook, behind, reached, record_of, with_fork}
-use Rattle.dine_arbiter.specs.Records.{ForkId, ForkRecord, Fork}
-use Rattle.dine_forks.proofs.CallerLemmas.{any-filter, first-used, length-without, once-filter, same_id-refl, same_id-true, without-absent, IsWalk, at-visit, put_all, reads, rest_of, writes, wrote}
-use Rattle.dine_forks.specs.declared.record.Onward.{Onward}
+use Rattle.dine_arbiter.proofs.Words.{◌≡◌, ℕ, ◌+◌, Bool, true, false, not, List, [], ◌∷◌, length, Some, None, is_some, inl, inr, refl, sym, ap, ◌∙◌, subst, arith, ◌<◌, Option, list_any, filter, cases_Bool, or_parts, nat_tests, EachIdOnce, EachPairOnce, has_id, is_end, is_in_use, are_joined, slot_list, first_id, behind, record_of, ForkId, ForkRecord, any-filter, first-used, once-filter, same_id-refl, same_id-true, without-absent, IsWalk, at-visit, reads, rest_of}
+use Rattle.dine_forks.specs.Book.{is_between, without}
+use Rattle.dine_forks.proofs.CallerLemmas.{length-without}
 
 -- there is a first record that passes exactly where some record passes
 pub is_some-first_id : (test : ForkRecord → Bool) (rs : List ForkRecord) → is_some (first_id (filter test rs)) ≡ list_any test rs
@@ -19,6 +14,11 @@ filter-none test [] h = refl
 filter-none test (x ∷ xs) h =
     let parts = or_parts (test x) (list_any test xs) h in
     rw parts.0 (ap (λ t. x ∷ t) (filter-none test xs parts.1))
+
+-- and where each passes another
+pub filter-all : (rs : List ForkRecord) → filter (λ r. true) rs ≡ rs
+filter-all [] = refl
+filter-all (x ∷ xs) = ap (λ t. x ∷ t) (filter-all xs)
 
 -- so they are where there is no first one that passes
 pub none-left : (test : ForkRecord → Bool) (rs : List ForkRecord) → first_id (filter test rs) ≡ None → filter (λ r. not (test r)) rs ≡ rs
@@ -74,22 +74,12 @@ apart-without a b id (x ∷ xs) once pairs h = grind (arith, same_id-refl x.id, 
 pub between-used : (a b : ℕ) (id : ForkId) (rs : List ForkRecord) → first_id (filter (is_between a b) rs) ≡ Some id → is_in_use id rs ≡ true
 between-used a b id rs h = any-filter (has_id id) (is_between a b) rs (first-used (filter (is_between a b) rs) id h)
 
--- ---- a step reads a record, or writes the record's fork
+-- ---- a step reads a record
 
 -- a step that reads goes on with what stands behind the record
 pub read_on : (slot : ℕ) (id : ForkId) (next next' : Option ForkId) (rs : List ForkRecord) (r : ForkRecord) → next ≡ Some id → IsWalk slot next rs → record_of id rs ≡ Some r → next' ≡ first_id (behind id (slot_list slot rs))
     → IsWalk slot next' rs × (rest_of next (slot_list slot rs) ≡ r ∷ rest_of next' (slot_list slot rs))
 read_on slot id next next' rs r here walk is onward = reads slot id next next' rs r here (at-visit slot id next rs r here walk is) onward
-
--- and so does one that writes, and the forks still to be written are the others
-pub written_on : (slot : ℕ) (change : ForkRecord → Fork) (id : ForkId) (next next' : Option ForkId) (old new : ForkBook) (r : ForkRecord) (onward : Onward) → next ≡ Some id → IsWalk slot next old.records → record_of id old.records ≡ Some r
-    → new ≡ record old { records = with_fork id (change r) old.records } → next' ≡ reached new onward → reached old onward ≡ first_id (behind id (slot_list slot old.records))
-    → IsWalk slot next' new.records × (rest_of next (slot_list slot old.records) ≡ r ∷ rest_of next' (slot_list slot new.records)) × (put_all change (rest_of next (slot_list slot old.records)) old.records ≡ put_all change (rest_of next' (slot_list slot new.records)) new.records)
-written_on slot change id next next' old new r onward here walk is written goes_on stood =
-    let put = ap (λ (b : ForkBook). b.records) written in
-    let v = at-visit slot id next old.records r here walk is in
-    let w = writes slot id next old.records new.records r (change r) here walk v put in
-    wrote slot change id next next' old.records new.records r here v w put (goes_on ∙ ap (λ (b : ForkBook). reached b onward) written ∙ stood ∙ sym w.onward)
 
 -- what is left then is shorter
 pub shorter : {X : Type 0} (x : X) (xs ys : List X) → ys ≡ x ∷ xs → length xs < length ys

@@ -62,13 +62,7 @@ refusal_of_two t u v =
 -- what speaks against a call before the conflict is looked for that it is to end
 abbrev pub early_refusal_of : Table → Call → Option Refusal
 early_refusal_of t (call.Separate u v) = refusal_of_two t u v
-early_refusal_of t call.Join = refusal_of t call.Join
-early_refusal_of t (call.Leave u) = refusal_of t (call.Leave u)
-early_refusal_of t (call.Conflict u v) = refusal_of t (call.Conflict u v)
-early_refusal_of t (call.Hungry u) = refusal_of t (call.Hungry u)
-early_refusal_of t (call.Begin u) = refusal_of t (call.Begin u)
-early_refusal_of t (call.Finish u) = refusal_of t (call.Finish u)
-early_refusal_of t (call.Withdraw u) = refusal_of t (call.Withdraw u)
+early_refusal_of t c = refusal_of t c
 
 -- the most messages that a call can cost, by the conflicts of its task
 abbrev pub most_messages : Table → Call → ℕ
@@ -76,10 +70,7 @@ most_messages t (call.Hungry u) = 3 * length (neighbours_of t u)
 most_messages t (call.Finish u) = length (neighbours_of t u)
 most_messages t (call.Conflict u v) = 3
 most_messages t (call.Withdraw u) = 2 * length (neighbours_of t u)
-most_messages t call.Join = 0
-most_messages t (call.Leave u) = 0
-most_messages t (call.Separate u v) = 0
-most_messages t (call.Begin u) = 0
+most_messages t c = 0
 
 -- a call is carried out, or refused: the reply is the table's, the table is the next one, the forks have changed as the call
 -- wants and agree with the table, and the messages are those that it costs, which are few

@@ -74,10 +74,7 @@ is_shape Hungry Thinking dirty both = not both
 is_shape Eating Thinking dirty both = dirty && not both
 is_shape Eating Hungry dirty both = dirty && both
 is_shape Hungry Hungry dirty both = not dirty && both
-is_shape Thinking Hungry dirty both = false
-is_shape Thinking Eating dirty both = false
-is_shape Hungry Eating dirty both = false
-is_shape Eating Eating dirty both = false
+is_shape holds lacks dirty both = false
 
 -- the edge has one of the shapes
 abbrev pub is_lawful : Fork → State → State → Bool
@@ -94,8 +91,7 @@ first_precedes fork = if fork.dirty then not fork.at_first else fork.at_first
 abbrev pub agrees_at : Option State → Option State → Bool → Fork → Bool
 agrees_at (Some first) (Some second) is_sooner fork =
     is_lawful fork first second && same_bool (first_precedes fork) is_sooner
-agrees_at None second is_sooner fork = false
-agrees_at (Some first) None is_sooner fork = false
+agrees_at first second is_sooner fork = false
 
 -- the fork is as the order of last meals wants it between the two tasks
 abbrev pub agrees : List Diner → Task × Task → Fork → Bool
@@ -115,8 +111,7 @@ pub record Settles (old : Fork) (first second : State) (new : Fork) (n : ℕ) : 
 -- ends in these states settle the edge. Both are present
 abbrev pub SettlesAt : Option State → Option State → Fork → Fork → ℕ → Type 0
 SettlesAt (Some first) (Some second) old new n = Settles old first second new n
-SettlesAt None second old new n = ⊥
-SettlesAt (Some first) None old new n = ⊥
+SettlesAt first second old new n = ⊥
 
 -- an edge of u is settled for the states in the order, and another stays. n is its messages
 abbrev pub SettlesEnd : Task → List Diner → Task × Task → Fork → Fork → ℕ → Type 0
@@ -128,10 +123,7 @@ abbrev pub SettlesAround : Task → List Diner → List (Task × Task) → List 
 SettlesAround u order [] [] [] n = n ≡ 0
 SettlesAround u order (c ∷ cs) (f ∷ fs) (g ∷ gs) n =
     (m k : ℕ) × (n ≡ m + k) × SettlesEnd u order c f g m × SettlesAround u order cs fs gs k
-SettlesAround u order [] [] (g ∷ gs) n = ⊥
-SettlesAround u order [] (f ∷ fs) gs n = ⊥
-SettlesAround u order (c ∷ cs) [] gs n = ⊥
-SettlesAround u order (c ∷ cs) (f ∷ fs) [] n = ⊥
+SettlesAround u order cs fs gs n = ⊥
 
 -- u holds the fork of a conflict that has it
 abbrev pub holds : Task → Task × Task → Fork → Bool
@@ -139,15 +131,13 @@ holds u c fork = if same_task u c.0 then fork.at_first else not fork.at_first
 
 -- u holds the forks of all its conflicts
 abbrev pub holds_all : Task → List (Task × Task) → List Fork → Bool
-holds_all u [] forks = true
-holds_all u (c ∷ cs) [] = true
 holds_all u (c ∷ cs) (f ∷ fs) = (not (has_end u c) || holds u c f) && holds_all u cs fs
+holds_all u cs forks = true
 
 -- the forks of u get dirty
 abbrev pub dirtied_around : Task → List (Task × Task) → List Fork → List Fork
-dirtied_around u [] forks = []
-dirtied_around u (c ∷ cs) [] = []
 dirtied_around u (c ∷ cs) (f ∷ fs) = (if has_end u c then dirtied f else f) ∷ dirtied_around u cs fs
+dirtied_around u cs forks = []
 
 -- ---- hunger that is given up: two moves, which are no steps of the rules
 
@@ -179,17 +169,15 @@ withdrawal_messages is_first fork =
 
 -- the forks once u has withdrawn
 abbrev pub withdrawn_around : Task → List (Task × Task) → List Fork → List Fork
-withdrawn_around u [] forks = []
-withdrawn_around u (c ∷ cs) [] = []
 withdrawn_around u (c ∷ cs) (f ∷ fs) =
     (if has_end u c then withdrawn (same_task u c.0) f else f) ∷ withdrawn_around u cs fs
+withdrawn_around u cs forks = []
 
 -- the messages of all that
 abbrev pub withdrawal_messages_around : Task → List (Task × Task) → List Fork → ℕ
-withdrawal_messages_around u [] forks = 0
-withdrawal_messages_around u (c ∷ cs) [] = 0
 withdrawal_messages_around u (c ∷ cs) (f ∷ fs) =
     (if has_end u c then withdrawal_messages (same_task u c.0) f else 0) + withdrawal_messages_around u cs fs
+withdrawal_messages_around u cs forks = 0
 
 -- ---- where the rules come to
 

@@ -11,9 +11,8 @@ use Rattle.dine_arbiter.specs.Edge.{SettlesAt, SettlesAround, dirtied_around, wi
 
 -- the forks of the conflicts that pass a test
 abbrev pub forks_kept : (Task × Task → Bool) → List (Task × Task) → List Fork → List Fork
-forks_kept p [] fs = []
-forks_kept p (c ∷ cs) [] = []
 forks_kept p (c ∷ cs) (f ∷ fs) = if p c then f ∷ forks_kept p cs fs else forks_kept p cs fs
+forks_kept p cs fs = []
 
 -- the fork of a new conflict: the end with the later meal holds it, dirty, and the other has the token
 abbrev pub new_fork : Bool → Fork

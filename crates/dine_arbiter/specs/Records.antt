@@ -1,11 +1,7 @@
 -- What the book's records stand for, and what a call does to those of a slot.
-use Rattle.std.specs.Prelude.{◌≡◌, ℕ, ◌==◌, ◌<◌, false, length, not, List, map, filter, Option, slice_index_or}
+use Rattle.std.specs.Prelude.{◌≡◌, ℕ, ◌==◌, ◌<◌, false, length, not, List, filter, Option}
 use Rattle.dine_words.specs.declared.task.Task.{Task}
-use Rattle.dine_words.specs.declared.task.State.{State}
-use Rattle.dine_words.specs.declared.task.State.TheVariants.{Thinking, Hungry, Eating}
 pub use Rattle.dine_forks.specs.declared.record.Fork.{Fork}
-use Rattle.dine_forks.specs.declared.ask.Response.{Response}
-use Rattle.dine_forks.specs.declared.ask.Response.TheVariants as answer
 pub use Rattle.dine_forks.specs.declared.record.ForkId.{ForkId}
 pub use Rattle.dine_forks.specs.declared.record.ForkRecord.{ForkRecord}
 use Rattle.dine_forks.specs.Book.{CanBeLinked, ForkBook, changed_where, is_full, is_end, is_between, other_end, with_record}
@@ -21,20 +17,6 @@ conflict_of seats r = (task_at seats r.first, task_at seats r.second)
 -- the task at the other end of a record of a slot
 abbrev pub neighbour_at : List (Option Seat) → ℕ → ForkRecord → Task
 neighbour_at seats slot r = task_at seats (other_end slot r)
-
--- what a task in this state answers that has a fork and is asked for it
-abbrev pub answer_in : State → Response
-answer_in Thinking = answer.Gives
-answer_in Hungry = answer.GivesIfDirty
-answer_in Eating = answer.Keeps
-
--- what each slot answers whose states these are
-abbrev pub answers_in : List State → ℕ → Response
-answers_in states slot = answer_in (slice_index_or states slot Thinking)
-
--- what each seat answers
-abbrev pub answers_of : List (Option Seat) → ℕ → Response
-answers_of seats slot = answer_in (seat_state seats slot)
 
 -- the fork of a new record between two slots, once its edge is quiet
 abbrev pub fork_of_new : List (Option Seat) → ℕ → ℕ → Fork
@@ -57,10 +39,6 @@ abbrev pub withdrawn_at : ℕ → ForkRecord → ForkRecord
 withdrawn_at slot r = changed_where (is_end slot) (withdrawn_fork slot) r
 
 -- ---- the book
-
--- the book, once the task at a slot has withdrawn
-abbrev pub withdrawn_book : ℕ → ForkBook → ForkBook
-withdrawn_book slot book = record book { records = map (withdrawn_at slot) book.records }
 
 -- the book, with a new record between two slots behind all others
 abbrev pub longer_book : List (Option Seat) → ForkId → ℕ → ℕ → ForkBook → ForkBook

@@ -1,5 +1,5 @@
 -- The seats of an arbiter, and the order of last meals that their stamps tell.
-use Rattle.std.specs.Prelude.{◌≡◌, ℕ, zero, suc, ◌==◌, nat_lt, ◌+◌, ◌<◌, Bool, true, false, not, ◌&&◌, ◌||◌, if◌then◌else◌, List, [], ◌∷◌, ◌++◌, map, Option, Some, None, slice_index_or, slice_set}
+use Rattle.std.specs.Prelude.{◌≡◌, ℕ, zero, suc, ◌==◌, nat_lt, ◌+◌, ◌<◌, Bool, true, false, not, ◌&&◌, ◌||◌, if◌then◌else◌, List, [], ◌∷◌, ◌++◌, Option, Some, None, slice_index_or, slice_set}
 use Rattle.std.specs.List.{filter_map}
 pub use Rattle.dine_words.specs.declared.task.Task.{Task}
 pub use Rattle.dine_words.specs.declared.task.State.{State}
@@ -65,6 +65,11 @@ abbrev pub state_of_seat : Option Seat → State
 state_of_seat None = Thinking
 state_of_seat (Some seat) = seat.diner.state
 
+-- the stamp of the task in the seat. It is asked for where there is one
+abbrev pub stamp_in_seat : Option Seat → ℕ
+stamp_in_seat None = 0
+stamp_in_seat (Some seat) = seat.stamp
+
 -- no task has the seat
 abbrev pub is_free : Option Seat → Bool
 is_free None = true
@@ -72,10 +77,9 @@ is_free (Some seat) = false
 
 -- the last meal of the first seat's task is sooner than that of the second's
 abbrev pub is_sooner_seat : Option Seat → Option Seat → Bool
-is_sooner_seat None b = false
-is_sooner_seat (Some a) None = false
 is_sooner_seat (Some a) (Some b) =
     not (same_state Eating a.diner.state) && (same_state Eating b.diner.state || nat_lt a.stamp b.stamp)
+is_sooner_seat a b = false
 
 -- the seat, if the task has it
 abbrev pub seat_of : Task → Option Seat → Option Seat
@@ -98,6 +102,10 @@ state_at seats u = state_in_seat u (slice_index_or seats u.slot None)
 abbrev pub task_at : List (Option Seat) → ℕ → Task
 task_at seats slot = task_in_seat slot (slice_index_or seats slot None)
 
+-- the stamp of the task at a slot
+abbrev pub stamp_at : List (Option Seat) → ℕ → ℕ
+stamp_at seats slot = stamp_in_seat (slice_index_or seats slot None)
+
 -- the state of the task at a slot
 abbrev pub seat_state : List (Option Seat) → ℕ → State
 seat_state seats slot = state_of_seat (slice_index_or seats slot None)
@@ -116,21 +124,13 @@ stands_before_at seats a b = is_stamped_before (seat_at seats a) (seat_at seats 
 
 -- the place of the first free seat, or behind all
 abbrev pub first_free : List (Option Seat) → ℕ
-first_free [] = 0
-first_free (None ∷ xs) = 0
 first_free (Some seat ∷ xs) = suc (first_free xs)
+first_free seats = 0
 
 -- the task of a seat, if it has one, has the slot
 abbrev pub HasSlot : ℕ → Option Seat → Type 0
 HasSlot slot None = Unit {0}
 HasSlot slot (Some seat) = seat.diner.task.slot ≡ slot
-
--- what is kept beside the seats: the state of the task at each slot, and which slots are free. The task of each seat
--- has the seat's place as its slot
-pub record IsTold (seats : List (Option Seat)) (states : List State) (free : List Bool) : Type 0 where
-  pub states_told : states ≡ map state_of_seat seats
-  pub free_told : free ≡ map is_free seats
-  pub slots_told : (slot : ℕ) → HasSlot slot (slice_index_or seats slot None)
 
 -- ---- a change of one seat
 
@@ -142,15 +142,3 @@ seats_put s u seats = slice_set seats u.slot (put_in_seat s u (slice_index_or se
 abbrev pub seats_last : Task → ℕ → List (Option Seat) → List (Option Seat)
 seats_last u stamp seats =
     slice_set seats u.slot (Some record { diner = record { task = u; state = Thinking }; stamp = stamp })
-
--- ---- the earliest of some tasks
-
--- the stamp of the seat is earlier than that of the one found so far, if one was found
-abbrev pub is_earlier_than : Option Seat → Seat → Bool
-is_earlier_than None seat = true
-is_earlier_than (Some best) seat = nat_lt seat.stamp best.stamp
-
--- the next seat, if its stamp is earlier and its task among those asked for, or else the seat found so far
-abbrev pub earlier : (Task → Bool) → Option Seat → Option Seat → Option Seat
-earlier p found None = found
-earlier p found (Some seat) = if is_earlier_than found seat && p seat.diner.task then Some seat else found

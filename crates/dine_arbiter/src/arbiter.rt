@@ -4,6 +4,8 @@
 //! which tell the order of last meals, only say who holds the fork of a new conflict and which of
 //! the ready tasks comes first.
 
+#![tactic(auto, using(crate::proofs::Seen::seen))]
+
 ghost use Rattle.std.specs.Prelude.{◌≡◌, ◌<◌, ◌≢◌, ◌-◌, ◌^◌, [], IfOk, IfSome, IsSome, None, Some, if◌then◌else◌, map, option_map};
 ghost use Rattle.dine_words.specs.declared.call.Call.TheVariants as call;
 ghost use Rattle.dine_words.specs.declared.call.Refusal.TheVariants.{Apart};
@@ -14,13 +16,15 @@ ghost use Rattle.dine_table.specs.Sound.{IsSound};
 ghost use Rattle.dine_forks.specs.Book.{ends_of, fork_of};
 ghost use Rattle.dine_arbiter.specs.Edge.{ForksAgree};
 ghost use Rattle.dine_arbiter.specs.Arbitration.{CarriesOut, early_refusal_of, refusal_of_two, slots_of};
+ghost use Rattle.dine_arbiter.specs.Hunger.{has_hungry_neighbour};
 
-mod hunger;
 mod refusals;
+mod waiting;
 
+use crate::search::Search;
 use crate::seats::{Seat, Seats, is_earlier};
+use crate::turn::{Finish, Hunger, Withdrawal};
 use crate::walk;
-use crate::withdrawal::give_back;
 use dine_forks::ForkBook;
 use dine_words::{Call, Limits, Refusal, Reply, State, Task};
 use std::alloc::{AllocError, Global};
@@ -56,7 +60,8 @@ impl Model for Arbiter {
 impl Arbiter {
     /// An arbiter with nobody present, and room for as many tasks and conflicts as the limits allow.
     ///
-    /// All memory is taken here, so no call can want any but [`Arbiter::neighbours`]. An error is want of it.
+    /// All memory is taken here, so no other call can want any but those that list tasks: [`Arbiter::neighbours`],
+    /// [`Arbiter::blockers`] and [`Arbiter::ready`]. An error is want of it.
     pub fn new(alloc: Global, limits: Limits) -> Result<Arbiter, AllocError>
         ensures table { IfOk result (λ a. a.table ≡ opening_table limits) }
         ensures forks { IfOk result (λ a. a.forks ≡ []) }
@@ -98,9 +103,9 @@ impl Arbiter {
         requires reply { reply ≡ reply_of self.old.table call }
         ensures { CarriesOut self.old call reply self.new }
     {
-        match self.refusal_told(call, reply) {
-            Some(_) => self.messages = 0,
-            None => {
+        match reply {
+            Reply::Refused(_) => self.messages = 0,
+            Reply::Joined(_) | Reply::Done => {
                 self.accept(call);
             }
         }
@@ -111,9 +116,10 @@ impl Arbiter {
     pub fn reply_to(&self, call: Call) -> Reply
         ensures { result ≡ reply_of self.now.table call }
     {
-        match self.refusal_of(call) {
-            Some(refusal) => Reply::Refused(refusal),
-            None => self.acceptance_of(call),
+        match (self.refusal_of(call), call) {
+            (Some(refusal), _) => Reply::Refused(refusal),
+            (None, Call::Join) => Reply::Joined(self.newcomer()),
+            (None, _) => Reply::Done,
         }
     }
 
@@ -142,7 +148,19 @@ impl Arbiter {
         ensures somebody { (u : Task) → state_of self.now.table u ≡ Some State.Hungry →
             ((v : Task) → state_of self.now.table v ≢ Some State.Eating) → IsSome result }
     {
-        self.earliest_ready()
+        let seats = &self.seats;
+        let book = &self.book;
+        let hungry = seats.hungry_slots();
+        let mut search = Search::new(hungry);
+        let mut earliest: Option<Seat> = None;
+        // No seat is looked at but those of tasks that are ready.
+        while let Some(slot) = search.next(hungry, book) {
+            let seat = seats.get(slot);
+            if is_earlier(seat, earliest) {
+                earliest = seat;
+            }
+        }
+        Some(earliest?.diner.task)
     }
 
     /// Whether the one task stands before the other in the order of last meals, the earliest first. Who isn't present stands
@@ -151,6 +169,27 @@ impl Arbiter {
         ensures { result ≡ stands_before self.now.table.order first second }
     {
         self.seats.stands_before(first, second)
+    }
+
+    /// Whether a task is in conflict with one that is hungry. `false` for a task that isn't present.
+    pub fn has_hungry_neighbour(&self, task: Task) -> bool
+        ensures { result ≡ has_hungry_neighbour self.now.table task }
+    {
+        let seats = &self.seats;
+        let book = &self.book;
+        // No walk is made where nobody at all is hungry.
+        if self.state(task).is_none() || book.len() == 0 || seats.hungry_slots().word_marks() == 0 {
+            return false;
+        }
+        let mut next = book.first_of(task.slot);
+        while let Some(id) = next {
+            let visit = book.visit(task.slot, id);
+            if seats.seat_state(visit.other) == State::Hungry {
+                return true;
+            }
+            next = visit.next;
+        }
+        false
     }
 
     /// The task at a slot, or `None` where nobody sits there. It takes no memory, and looks at one seat.
@@ -162,10 +201,7 @@ impl Arbiter {
         ensures found { (u : Task) → u.slot ≡ slot → IsSome (state_of self.now.table u) →
             result ≡ Some u }
     {
-        let Some(seat) = self.seats.get(slot) else {
-            return None;
-        };
-        Some(seat.diner.task)
+        Some(self.seats.get(slot)?.diner.task)
     }
 
     /// How many joins and finishes were accepted.
@@ -199,7 +235,13 @@ impl Arbiter {
             option_map (λ tasks. tasks.items) found ≡ neighbours_if_present self.now.table task) }
     {
         match self.state(task) {
-            Some(_) => Ok(Some(walk::neighbours(alloc, &self.seats, &self.book, task.slot)?)),
+            Some(_) => Ok(Some(walk::tasks_around(
+                alloc,
+                &self.seats,
+                &self.book,
+                task.slot,
+                false,
+            )?)),
             None => Ok(None),
         }
     }
@@ -217,38 +259,6 @@ impl Arbiter {
         &self.book
     }
 
-    // The ready task whose last meal is the earliest, found among the hungry ones. Those that are known to lack a fork are
-    // passed over, 64 at once. Which of the others hold all of their forks is asked first, so no seat is looked at but
-    // theirs.
-    fn earliest_ready(&self) -> Option<Task>
-        ensures next { result ≡ next_ready_of self.now.table }
-        ensures sound { IsSound self.now.table }
-    {
-        let mut earliest: Option<Seat> = None;
-        let seats = self.seats.as_slice();
-        let hungry = self.seats.hungry_slots();
-        let mut words = hungry.word_marks();
-        while words != 0 {
-            let word = words.trailing_zeros() as usize;
-            words &= words - 1;
-            let mut members = hungry.word(word) & !self.book.lacking_word(word);
-            while members != 0 {
-                let slot = 64 * word + members.trailing_zeros() as usize;
-                members &= members - 1;
-                if self.book.holds_all(slot as u32) && is_earlier(seats[slot], earliest) {
-                    earliest = seats[slot];
-                }
-            }
-        }
-        match earliest {
-            Some(seat) => Some(seat.diner.task),
-            None => None,
-        }
-    }
-}
-
-// What calls change that are accepted.
-impl Arbiter {
     // Carries out a call that nothing speaks against, or refuses to end a conflict that isn't there.
     #[inline(always)]
     fn accept(&mut self, call: Call) -> Reply
@@ -324,8 +334,14 @@ impl Arbiter {
         ensures { CarriesOut self.old (call.Hungry task) Done self.new }
     {
         self.seats.set_state(task, State::Hungry);
-        // It was thinking, and its edges were at rest: so it has the request token of each fork that it lacks.
-        self.messages = self.book.ask_around(task.slot, &self.seats.states());
+        // It was thinking, and its edges were at rest: so nothing is to be sent for a fork that it has.
+        let by_slot = self.seats.states();
+        let before = self.book.count(task.slot);
+        self.book.walk(task.slot, &Hunger { by_slot });
+        let after = self.book.count(task.slot);
+        // A token goes for each fork that was lacked, a fork comes for each that isn't any more, and the token with it for each
+        // that is asked for now.
+        self.messages = 2 * before.lacked + after.asked - after.lacked - before.asked;
     }
 
     // A hungry task that holds all of its forks eats, and they get dirty.
@@ -346,15 +362,25 @@ impl Arbiter {
     {
         self.seats.seat_last(task, self.clock);
         self.clock += 1;
-        self.messages = self.book.give_up(task.slot);
+        // It was eating, with all of its forks dirty: so those that nobody asked for stay.
+        let by_slot = self.seats.states();
+        self.messages = self.book.count(task.slot).asked;
+        self.book.walk(task.slot, &Finish { by_slot });
     }
 
-    // A hungry task thinks again without a meal, and gives back its clean forks and the tokens that it sent.
+    // A hungry task thinks again without a meal, and gives back its clean forks and the tokens that it sent. It is built apart:
+    // few calls are withdrawals, and the others are shorter without it.
+    #[inline(never)]
     fn withdraw(&mut self, task: Task)
         requires accepted { refusal_of self.old.table (call.Withdraw task) ≡ None }
         ensures { CarriesOut self.old (call.Withdraw task) Done self.new }
     {
         self.seats.set_state(task, State::Thinking);
-        self.messages = give_back(&mut self.book, task.slot);
+        let before = self.book.count(task.slot);
+        self.book.walk(task.slot, &Withdrawal);
+        let after = self.book.count(task.slot);
+        // A token comes back for each fork that was lacked. A fork goes for each that is lacked more, and its token comes where
+        // the slot hadn't it.
+        self.messages = 2 * after.lacked + after.asked - before.lacked - before.asked;
     }
 }

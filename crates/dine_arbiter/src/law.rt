@@ -15,6 +15,7 @@ ghost use Rattle.dine_arbiter.specs.Forks.{ForksFollow};
 
 /// At each moment at most one of the two rules is enabled on an edge, and none where the edge has one of the six shapes
 /// that it has between calls. In each shape the holder of a clean fork is hungry, and an eater holds the fork, dirty.
+#[tactic(auto, using(crate::proofs::Settling::shapes))]
 pub fn edges_keep_their_shapes()
     ensures one_rule { (fork : Fork) (first second : State) →
         (asks fork first second && yields fork first second) ≡ false }
@@ -32,6 +33,7 @@ pub fn edges_keep_their_shapes()
 {}
 
 /// Each call keeps the forks in agreement with the order of last meals, and sends as many messages as the table says.
+#[tactic(auto, using(crate::proofs::Following::forks_follow))]
 pub fn forks_follow_the_order()
     ensures agree { (t : Table) (call : Call) (old new : List Fork) (n : ℕ) →
         IsSound t → ForksAgree t old → ForksFollow t call old new n →
@@ -42,6 +44,7 @@ pub fn forks_follow_the_order()
 {}
 
 /// A hungry task holds all of its forks exactly where it is ready.
+#[tactic(auto, using(crate::proofs::Following::holds_all_is_ready))]
 pub fn forks_tell_who_is_ready()
     ensures { (t : Table) (u : Task) (forks : List Fork) →
         IsSound t → ForksAgree t forks → state_of t u ≡ Some state.Hungry →
@@ -50,6 +53,7 @@ pub fn forks_tell_who_is_ready()
 
 /// On each edge a hungry end holds the fork exactly where the other end doesn't keep it waiting: the other end doesn't
 /// eat, and isn't hungry with an earlier last meal.
+#[tactic(auto, using(crate::proofs::EdgeLaws::holds_first, crate::proofs::EdgeLaws::holds_second))]
 pub fn a_hungry_end_holds_the_fork_it_may_use()
     ensures first { (t : Table) (u v : Task) (fork : Fork) → u ≢ v →
         agrees t.order (u, v) fork ≡ true → state_of t u ≡ Some state.Hungry →

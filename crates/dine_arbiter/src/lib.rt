@@ -4,10 +4,10 @@
 mod arbiter;
 mod edge;
 mod law;
+mod search;
 mod seats;
-mod sent;
+mod turn;
 mod walk;
-mod withdrawal;
 
 pub use arbiter::Arbiter;
 pub use edge::settle_edge;

@@ -1,16 +1,13 @@
 //! The seats by slot, and the state of the task at each: questions on them, and changes of one seat.
 
-ghost use Rattle.std.specs.Prelude.{◌≡◌, ◌<◌, ◌^◌, IfOk, IsSome, None, if◌then◌else◌, length, map, replicate, true};
-ghost use Rattle.std.specs.Prelude.{slice_index_or, slice_set};
-ghost use Rattle.std.specs.List.{list_any};
+ghost use Rattle.std.specs.Prelude.{◌≡◌, ◌<◌, ◌^◌, IfOk, IsSome, None, length, map, replicate, slice_index_or, slice_set};
 ghost use Rattle.dine_words.specs.declared.task.State.TheVariants.{Thinking};
-ghost use Rattle.dine_arbiter.specs.Seats.{earlier, first_free, is_sooner_at};
-ghost use Rattle.dine_arbiter.specs.Seats.{seat_at, seat_state, seats_last, seats_put, stands_before_at, state_at};
-ghost use Rattle.dine_arbiter.specs.Seats.{task_at};
-ghost use Rattle.dine_arbiter.specs.Hunger.{hungry_slots, is_anyone_hungry, is_hungry};
-ghost use Rattle.dine_arbiter.specs.Records.{answers_in, answers_of};
+ghost use Rattle.dine_arbiter.specs.Seats.{first_free, is_sooner_at, is_stamped_before, seat_at, seat_state};
+ghost use Rattle.dine_arbiter.specs.Seats.{seats_last, seats_put, stamp_at, stands_before_at, state_at, task_at};
+ghost use Rattle.dine_arbiter.specs.Hunger.{hungry_slots, is_hungry};
+ghost use Rattle.dine_arbiter.specs.Turns.{states_by};
 
-use dine_forks::{Holders, Response, SlotSet};
+use dine_forks::SlotSet;
 use dine_words::{Diner, State, Task};
 use std::alloc::{AllocError, Global};
 use std::marker::Model;
@@ -23,119 +20,14 @@ pub struct Seat {
     pub stamp: u64,
 }
 
-impl Seat {
-    // The seat of a task that thinks.
-    #[inline(always)]
-    fn thinking(task: Task, stamp: u64) -> Seat
-        ensures { result ≡ record {
-          diner = record { task = task; state = Thinking };
-          stamp = stamp;
-        } }
-    {
-        Seat {
-            diner: Diner {
-                task,
-                state: State::Thinking,
-            },
-            stamp,
-        }
-    }
-}
-
-// The state of the task at each slot, thinking at a free one: all that a walk asks of a neighbour.
-#[derive(Drop)]
-struct States {
-    by_slot: Vec<State>,
-    // How many of them are hungry. Where it is 0, no walk has to look for one.
-    hungry: usize,
-    // The slots of those that are, so that a search for one passes over the others.
-    hungry_slots: SlotSet,
-}
-
-impl Model for States {
-    ghost use Rattle.std.specs.Prelude.{◌≡◌, List};
-    ghost use Rattle.dine_words.specs.declared.task.State.{State};
-    ghost use Rattle.dine_arbiter.specs.Hunger.{IsTallied};
-
-    ghost Value = { List State };
-
-    ghost view = { λ s. s.by_slot.items };
-
-    ghost invariant = { λ s. IsTallied s.by_slot.items s.hungry s.hungry_slots };
-}
-
-impl States {
-    // So many thinking states.
-    fn new(alloc: Global, slots: u32) -> Result<States, AllocError>
-        ensures { IfOk result (λ states. states ≡ replicate slots Thinking) }
-    {
-        Ok(States {
-            by_slot: vec![in alloc; State::Thinking; slots as usize]?,
-            hungry: 0,
-            hungry_slots: SlotSet::new(alloc, slots)?,
-        })
-    }
-
-    // The state at a slot.
-    #[inline]
-    fn get(&self, slot: u32) -> State
-        requires { slot < length self.now }
-        ensures { result ≡ slice_index_or self.now slot Thinking }
-    {
-        self.by_slot[slot as usize]
-    }
-
-    // All of them, the state at slot 0 first.
-    #[inline(always)]
-    fn as_slice(&self) -> &[State]
-        ensures { result.now ≡ self.now }
-    {
-        self.by_slot.as_slice()
-    }
-
-    // Puts a state at a slot.
-    #[inline]
-    fn set(&mut self, slot: u32, state: State)
-        requires { slot < length self.old }
-        ensures { self.new ≡ slice_set self.old slot state }
-    {
-        let before = self.by_slot[slot as usize];
-        self.by_slot[slot as usize] = state;
-        // Most changes are to hunger or from it. The end of a meal is neither, and writes nothing more.
-        if state == State::Hungry {
-            if before != State::Hungry {
-                self.hungry += 1;
-                self.hungry_slots.insert(slot);
-            }
-        } else if before == State::Hungry {
-            self.hungry -= 1;
-            self.hungry_slots.remove(slot);
-        }
-    }
-
-    // Whether any of them is hungry.
-    #[inline]
-    fn is_anyone_hungry(&self) -> bool
-        ensures { result ≡ list_any is_hungry self.now }
-    {
-        self.hungry != 0
-    }
-
-    // The slots whose state is hungry.
-    #[inline(always)]
-    fn hungry_slots(&self) -> &SlotSet
-        ensures { result.now ≡ map is_hungry self.now }
-    {
-        &self.hungry_slots
-    }
-}
-
 /// The seats by slot, each free or with its task.
 #[derive(Drop)]
 pub struct Seats {
     places: Vec<Option<Seat>>,
-    // The state of the task at each slot once more.
-    states: States,
+    // The state of the task at each slot once more, thinking at a free one.
+    by_slot: Vec<State>,
+    // The slots whose task is hungry, so that a search for one passes over the others.
+    hungry: SlotSet,
     // The slots with no task, so that the least is found with no look at the seats.
     free: SlotSet,
 }
@@ -143,13 +35,13 @@ pub struct Seats {
 impl Model for Seats {
     ghost use Rattle.std.specs.Prelude.{List, Option};
     ghost use Rattle.dine_arbiter.specs.declared.seats.Seat.{Seat};
-    ghost use Rattle.dine_arbiter.specs.Seats.{IsTold};
+    ghost use Rattle.dine_arbiter.specs.Hunger.{IsTold};
 
     ghost Value = { List (Option Seat) };
 
     ghost view = { λ s. s.places.items };
 
-    ghost invariant = { λ s. IsTold s.places.items s.states s.free };
+    ghost invariant = { λ s. IsTold s.places.items s.by_slot.items s.hungry s.free };
 }
 
 impl Seats {
@@ -159,27 +51,17 @@ impl Seats {
     {
         Ok(Seats {
             places: vec![in alloc; None; slots as usize]?,
-            states: States::new(alloc, slots)?,
+            by_slot: vec![in alloc; State::Thinking; slots as usize]?,
+            hungry: SlotSet::new(alloc, slots)?,
             free: SlotSet::all(alloc, slots)?,
         })
-    }
-
-    /// The seats, the one of slot 0 first.
-    pub fn as_slice(&self) -> &[Option<Seat>]
-        ensures { result.now ≡ self.now }
-    {
-        self.places.as_slice()
     }
 
     /// The state of a task, if it is present.
     pub fn state_at(&self, task: Task) -> Option<State>
         ensures { result ≡ state_at self.now task }
     {
-        // The task of a seat has the seat's place as its slot, so nothing but its birth tells it from others.
-        match self.places.get(task.slot as usize) {
-            Some(Some(seat)) if seat.diner.task.born == task.born => Some(seat.diner.state),
-            _ => None,
-        }
+        Some(self.seat_at(task)?.diner.state)
     }
 
     /// The seat at a slot, if a task has it.
@@ -187,19 +69,24 @@ impl Seats {
     pub fn get(&self, slot: u32) -> Option<Seat>
         ensures { result ≡ slice_index_or self.now slot None }
     {
-        match self.places.get(slot as usize) {
-            Some(seat) => *seat,
-            None => None,
-        }
+        *self.places.get(slot as usize)?
     }
 
     /// The task at a slot. It is asked for where there is one.
     pub fn task_at(&self, slot: u32) -> Task
         ensures { result ≡ task_at self.now slot }
     {
+        self.get(slot)
+            .map_or(Task { slot, born: 0 }, |seat| seat.diner.task)
+    }
+
+    /// The stamp of the task at a slot. It is asked for where there is one.
+    pub fn stamp_at(&self, slot: u32) -> u64
+        ensures { result ≡ stamp_at self.now slot }
+    {
         match self.places.get(slot as usize) {
-            Some(Some(seat)) => seat.diner.task,
-            _ => Task { slot, born: 0 },
+            Some(Some(seat)) => seat.stamp,
+            _ => 0,
         }
     }
 
@@ -209,26 +96,16 @@ impl Seats {
         requires { slot < length self.now }
         ensures { result ≡ seat_state self.now slot }
     {
-        self.states.get(slot)
+        self.by_slot[slot as usize]
     }
 
-    /// The state of the task at each slot, for a walk that asks their holders for forks.
+    /// The state of the task at each slot, the one of slot 0 first. It is asked for where there is one.
     #[inline(always)]
-    pub fn states(&self) -> SeatedStates<'_>
-        ensures places { length result.by_slot.now ≡ length self.now }
-        ensures answers { answers_in result.by_slot.now ≡ answers_of self.now }
+    pub fn states(&self) -> &[State]
+        ensures places { length result.now ≡ length self.now }
+        ensures states { states_by result.now ≡ seat_state self.now }
     {
-        SeatedStates {
-            by_slot: self.states.as_slice(),
-        }
-    }
-
-    /// Whether any task is hungry.
-    #[inline]
-    pub fn is_anyone_hungry(&self) -> bool
-        ensures { result ≡ is_anyone_hungry self.now }
-    {
-        self.states.is_anyone_hungry()
+        self.by_slot.as_slice()
     }
 
     /// Whether the last meal of the task at the one slot is sooner than that of the task at the other. A meal in
@@ -248,7 +125,8 @@ impl Seats {
         }
     }
 
-    // The seat of a task, if it is present.
+    // The seat of a task, if it is present: its slot is the seat's place, so nothing but its birth tells it from others.
+    #[inline(always)]
     fn seat_at(&self, task: Task) -> Option<Seat>
         ensures { result ≡ seat_at self.now task }
     {
@@ -262,14 +140,11 @@ impl Seats {
     pub fn stands_before(&self, first: Task, second: Task) -> bool
         ensures { result ≡ stands_before_at self.now first second }
     {
-        match (self.seat_at(first), self.seat_at(second)) {
-            (Some(first), Some(second)) => first.stamp < second.stamp,
-            (Some(_), None) => true,
-            (None, _) => false,
-        }
+        is_earlier(self.seat_at(first), self.seat_at(second))
     }
 
     /// The least slot that no task has, or the number of slots where each has one.
+    #[tactic(auto, using(crate::proofs::PassedOver::first_free_member))]
     pub fn first_free(&self) -> u32
         requires { length self.now < 2 ^ 32 }
         ensures { result ≡ first_free self.now }
@@ -282,7 +157,7 @@ impl Seats {
     pub fn hungry_slots(&self) -> &SlotSet
         ensures { result.now ≡ hungry_slots self.now }
     {
-        self.states.hungry_slots()
+        &self.hungry
     }
 
     /// Puts a task that is present into a state. Its stamp stays.
@@ -290,10 +165,9 @@ impl Seats {
         requires { IsSome (state_at self.old task) }
         ensures { self.new ≡ seats_put state task self.old }
     {
-        let slot = task.slot as usize;
-        let seat = self.places[slot].as_mut().unwrap();
+        let seat = self.places[task.slot as usize].as_mut().unwrap();
         seat.diner.state = state;
-        self.states.set(task.slot, state);
+        put(&mut self.by_slot, &mut self.hungry, task.slot, state);
     }
 
     /// A task that is present thinks from now on, with the stamp.
@@ -301,11 +175,11 @@ impl Seats {
         requires { IsSome (state_at self.old task) }
         ensures { self.new ≡ seats_last task stamp self.old }
     {
-        let slot = task.slot as usize;
-        let seat = self.places[slot].as_mut().unwrap();
-        seat.diner.state = State::Thinking;
+        let state = State::Thinking;
+        let seat = self.places[task.slot as usize].as_mut().unwrap();
+        seat.diner.state = state;
         seat.stamp = stamp;
-        self.states.set(task.slot, State::Thinking);
+        put(&mut self.by_slot, &mut self.hungry, task.slot, state);
     }
 
     /// Seats a task at its slot that is free, thinking, with the stamp: the state there is that of a newcomer already.
@@ -314,28 +188,27 @@ impl Seats {
         requires free { slice_index_or self.old task.slot None ≡ None }
         ensures { self.new ≡ seats_last task stamp self.old }
     {
-        self.places[task.slot as usize] = Some(Seat::thinking(task, stamp));
+        let state = State::Thinking;
+        let diner = Diner { task, state };
+        self.places[task.slot as usize] = Some(Seat { diner, stamp });
         self.free.remove(task.slot);
     }
 
-    /// Makes the seat at a slot free.
+    /// Makes the seat at a slot free, whose task thinks: the state there stays.
     pub fn vacate(&mut self, slot: u32)
-        requires { slot < length self.old }
+        requires slot { slot < length self.old }
+        requires thinks { seat_state self.old slot ≡ Thinking }
         ensures { self.new ≡ slice_set self.old slot None }
     {
         self.places[slot as usize] = None;
         self.free.insert(slot);
-        // A task that leaves thinks, and no state is changed then.
-        if self.states.get(slot) != State::Thinking {
-            self.states.set(slot, State::Thinking);
-        }
     }
 }
 
 /// Whether a seat has a task whose stamp is earlier than that of the seat found so far, if one was found.
 #[inline(always)]
 pub fn is_earlier(next: Option<Seat>, found: Option<Seat>) -> bool
-    ensures { (if result then next else found) ≡ earlier (λ _. true) found next }
+    ensures { result ≡ is_stamped_before next found }
 {
     match (next, found) {
         (Some(seat), Some(best)) => seat.stamp < best.stamp,
@@ -344,27 +217,20 @@ pub fn is_earlier(next: Option<Seat>, found: Option<Seat>) -> bool
     }
 }
 
-/// The states by slot, lent to a walk that asks: none of its steps reads anew where they lie.
-#[derive(Clone, Copy)]
-pub struct SeatedStates<'a> {
-    by_slot: &'a [State],
-}
-
-impl Holders for SeatedStates<'_> {
-    ghost use Rattle.std.specs.Prelude.{length};
-    ghost use Rattle.dine_arbiter.specs.Records.{answers_in};
-
-    ghost places = { λ states. length states.by_slot.now };
-
-    ghost answers = { λ states. answers_in states.by_slot.now };
-
-    // A task that thinks gives its forks, one that eats keeps them, and a hungry one keeps those that are clean.
-    #[inline(always)]
-    fn answer(&self, slot: u32) -> Response {
-        match self.by_slot[slot as usize] {
-            State::Thinking => Response::Gives,
-            State::Hungry => Response::GivesIfDirty,
-            State::Eating => Response::Keeps,
-        }
+// Puts a state at a slot, and the slot among those of hungry tasks or out of them.
+#[inline]
+fn put(by_slot: &mut Vec<State>, hungry: &mut SlotSet, slot: u32, state: State)
+    requires slot { slot < length by_slot.old.items }
+    requires told { hungry.old ≡ map is_hungry by_slot.old.items }
+    ensures states { by_slot.new.items ≡ slice_set by_slot.old.items slot state }
+    ensures told { hungry.new ≡ map is_hungry by_slot.new.items }
+{
+    let before = by_slot[slot as usize];
+    by_slot[slot as usize] = state;
+    // The end of a meal is no change of hunger, and writes nothing more.
+    if state == State::Hungry {
+        hungry.insert(slot);
+    } else if before == State::Hungry {
+        hungry.remove(slot);
     }
 }

@@ -1,13 +1,13 @@
 //! Walks over the records of one slot, in order of declaration. No other record is read or
 //! written, but where a book ends a mark on the way.
 
-ghost use Rattle.std.specs.Prelude.{◌≡◌, ◌<◌, IfOk, map};
+ghost use Rattle.std.specs.Prelude.{◌≡◌, ◌<◌, ◌&&◌, IfOk, filter, map, not};
 ghost use Rattle.dine_forks.specs.declared.record.ForkId.{ForkId};
-ghost use Rattle.dine_forks.specs.Book.{IsBook, are_joined, first_id, slot_list};
+ghost use Rattle.dine_forks.specs.Book.{IsBook, are_joined, first_id, holds, slot_list};
 ghost use Rattle.dine_arbiter.specs.Records.{MayLink, book_without_pair, book_without_slot, longer_book};
 ghost use Rattle.dine_arbiter.specs.Records.{messages_of_new, neighbour_at};
 
-use crate::edge::settle_new;
+use crate::edge::{new_fork, settle_edge};
 use crate::seats::Seats;
 use dine_forks::{ForkBook, ForkId};
 use dine_words::Task;
@@ -27,13 +27,14 @@ pub fn first_of(book: &ForkBook, slot: u32) -> Option<ForkId>
 
 /// Adds the record of a new conflict between the tasks at two slots, whose edge comes to rest at once, and returns
 /// the messages.
+#[tactic(auto, using(crate::proofs::Settling::where_quiet))]
 pub fn link_between(seats: &Seats, book: &mut ForkBook, first: u32, second: u32) -> u32
     requires { MayLink seats.now book.old first second }
     ensures book { (id : ForkId) × (book.new ≡ longer_book seats.now id first second book.old) }
     ensures messages { result ≡ messages_of_new seats.now first second }
 {
-    let (fork, messages) = settle_new(
-        seats.is_sooner_at(first, second),
+    let (fork, messages) = settle_edge(
+        new_fork(seats.is_sooner_at(first, second)),
         seats.seat_state(first),
         seats.seat_state(second),
     );
@@ -61,31 +62,33 @@ pub fn unlink_between(book: &mut ForkBook, first: u32, second: u32) -> bool
     // As in `first_of`: a sound book has no second record of the two.
     let _ = book.len();
     // Who ends a conflict mostly has one, so their signatures aren't asked first.
-    match book.find_counted(first, second).0 {
-        Some(id) => {
-            book.unlink(id);
-            true
-        }
-        None => false,
-    }
+    let Some(id) = book.find_counted(first, second).0 else {
+        return false;
+    };
+    book.unlink(id);
+    true
 }
 
-/// The tasks at the other ends of a slot's records, in order of declaration.
-pub fn neighbours(
+/// The tasks at the other ends of a slot's records, in order of declaration: of all, or only of those whose fork it lacks.
+pub fn tasks_around(
     alloc: Global,
     seats: &Seats,
     book: &ForkBook,
     slot: u32,
+    lacked_alone: bool,
 ) -> Result<Vec<Task>, AllocError>
     requires { slot < book.now.slots }
-    ensures { IfOk result (λ tasks.
-        tasks.items ≡ map (neighbour_at seats.now slot) (slot_list slot book.now.records)) }
+    ensures { IfOk result (λ tasks. tasks.items ≡ map (neighbour_at seats.now slot)
+        (filter (λ r. not (lacked_alone && holds slot r)) (slot_list slot book.now.records))) }
 {
     let mut tasks = Vec::new(alloc);
     let mut next = first_of(book, slot);
     while let Some(id) = next {
         let visit = book.visit(slot, id);
-        tasks.push(seats.task_at(visit.other))?;
+        let is_first = visit.record.first == slot;
+        if !lacked_alone | (visit.record.fork.at_first != is_first) {
+            tasks.push(seats.task_at(visit.other))?;
+        }
         next = visit.next;
     }
     Ok(tasks)

@@ -22,9 +22,10 @@ use Rattle.dine_serve.specs.Journals.{is_of_journal}
 use Rattle.dine_serve.specs.Serving.{entries_from, history_of, said_to_input, standing_at}
 use Rattle.dine_serve.proofs.CallerLemmas.{entry_lines-all, legal-lines, said_to_input-journal}
 use Rattle.dine_streams.specs.declared.ended.Ended.{Ended}
+use Rattle.dine_streams.specs.declared.ended.Ended.TheVariants as ended
 use Rattle.dine_streams.specs.declared.ended.CliFault.{CliFault}
 use Rattle.dine_replay.specs.AuditOutput.{audit_end, audit_output}
-use Rattle.dine_cli.specs.Resumed.{HoldsJournal, IsGoneOn, IsResumed}
+use Rattle.dine_cli.specs.Resumed.{HoldsJournal, IsGoneOn, IsResumed, version_fault}
 use Rattle.dine_cli.specs.Resumed.Found.{Legal, Refused}
 use Rattle.dine_words.specs.Texts.{text_of_lines}
 
@@ -36,7 +37,7 @@ module _ (limits : Limits) (history : List Entry) (passes : Option ℕ) (input :
   rest-text =
       let s = standing_at (table_after limits history) passes in
       let lines : List (Option (List ℕ)) = seen_lines [] input in
-      ap (λ l. journal_text limits history ++ text_of_lines l) (said_to_input-journal s input tt)
+      ap (λ l. journal_text limits history ++ text_of_lines l) (said_to_input-journal s input)
       ∙ ap (λ l. journal_text limits history ++ l) (entry_lines-all (entries_from s lines))
       ∙ sym (text_of_version-append written_version limits history (entries_from s lines))
 
@@ -92,3 +93,8 @@ unmarked fault (Err e) A tells alone = tt
 pub in_any_case : {A : Type 0} (outcome : Result Ended CliFault) → A → OnOk outcome A
 in_any_case (Ok end) holds = holds
 in_any_case (Err fault) holds = tt
+
+-- a journal of the other version is told of, and the run ends so
+pub version_told : (old new : Option (List ℕ)) (outcome : Result Ended CliFault) → OnOk outcome (Appends old new version_fault) → IfOk outcome (λ end. end ≡ ended.Fault) → IfOk outcome (λ end. Appends old new version_fault × (end ≡ ended.Fault))
+version_told old new (Ok end) written ends = (written, ends)
+version_told old new (Err fault) written ends = tt

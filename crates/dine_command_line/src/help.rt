@@ -66,7 +66,9 @@ Other lines are answered by lines that a filter knows by their first byte:
                   '? cancelled none', where there is none
   state T         '? state thinking'
   neighbours T    '? neighbours U' and more, or '? neighbours none' where T isn't present
+  blockers T      '? blockers U' and more, for whom T waits, or '? blockers none'
   next            '? next T', or '? next none'
+  ready           '? ready T' and more, by last meal, or '? ready none'
   anything else   '! N fault words', N being the number of the line, from 1
 
 One space stands between words. Empty lines and lines that begin with # are passed over. A line past

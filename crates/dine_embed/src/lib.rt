@@ -8,6 +8,7 @@
 ghost use Rattle.std.specs.Prelude.{◌≡◌, ◌⊎◌, ◌≤◌, ◌<◌, ◌↔◌, ◌==◌, false, true, length, Some, None};
 ghost use Rattle.dine_words.specs.Ranges.{most_conflicts, most_tasks};
 ghost use Rattle.dine_table.specs.Table.{is_ready, neighbours_if_present, next_ready_of, opening_table, state_of};
+ghost use Rattle.dine_table.specs.Waiting.{blockers_if_present, ready_of};
 ghost use Rattle.dine_embed.specs.Acting.{ListsTasks, last_clock, messages_left, newcomer_left, number_answered, table_left, task_named};
 ghost use Rattle.dine_embed.specs.Numbers.{call_numbered, number_of_fault, number_of_state};
 ghost use Rattle.dine_embed.specs.Open.{IsOpen, StaysOpen};
@@ -23,7 +24,7 @@ mod task;
 
 use crate::handle::Handle;
 use crate::numbers::{Fault, call_numbered, number_of_reply, number_of_state};
-use crate::task::{DineTask, write_names};
+use crate::task::{DineTask, write_list};
 use dine_arbiter::Arbiter;
 use dine_words::{Call, Limits, Refusal, Reply};
 use std::alloc::Global;
@@ -31,7 +32,8 @@ use std::alloc::Global;
 /// Opens an arbiter with room for as many tasks and conflicts at a closed handle, and answers 0.
 ///
 /// It answers `OutOfRange` unless `tasks` is from 1 to 4,096 and `conflicts` from 1 to 65,535, and `NoMemory` where memory
-/// runs out; the handle stays closed then. No later call wants memory but [`dine_neighbours`].
+/// runs out; the handle stays closed then. No later call wants memory but those that
+/// list tasks: [`dine_neighbours`], [`dine_blockers`] and [`dine_ready`].
 #[unsafe(no_mangle)]
 pub extern "C" fn dine_open(alloc: Global, tasks: u32, conflicts: u32, dine: &mut Handle) -> u32
     requires closed { dine.old.holds ≡ false }
@@ -188,15 +190,65 @@ pub extern "C" fn dine_neighbours(
     ensures kept { StaysOpen dine.old dine.new }
 {
     match dine.look(alloc, |arbiter| arbiter.neighbours(alloc, task.task())) {
-        Ok(Some(tasks)) => {
-            *count = tasks.len();
-            if found.len() < tasks.len() {
-                return Fault::NoSpace.number();
-            }
-            write_names(&tasks, found);
-            0
-        }
+        Ok(Some(tasks)) => write_list(&tasks, found, count),
         Ok(None) => Refusal::Unknown.number(),
+        Err(_) => Fault::NoMemory.number(),
+    }
+}
+
+/// Writes the tasks for which a hungry task waits to the front of `found`, as [`dine_neighbours`] does with all neighbours:
+/// those of these that eat, and those that are hungry with an earlier last meal. There are none for a task that isn't
+/// hungry, or that may begin.
+#[unsafe(no_mangle)]
+pub extern "C" fn dine_blockers(
+    alloc: Global,
+    dine: &mut Handle,
+    task: &DineTask,
+    found: &mut [DineTask],
+    count: &mut usize,
+) -> u32
+    requires open { IsOpen dine.old }
+    ensures answer { (result ≡ 0) ⊎ (result ≡ number_of_refusal Refusal.Unknown)
+        ⊎ (result ≡ number_of_fault NoMemory) ⊎ (result ≡ number_of_fault NoSpace) }
+    ensures found { result ≡ 0 →
+        ListsTasks (blockers_if_present dine.old.value.table (task_named task.now))
+        found.new count.new }
+    ensures unknown { result ≡ number_of_refusal Refusal.Unknown →
+        blockers_if_present dine.old.value.table (task_named task.now) ≡ None }
+    ensures space { result ≡ number_of_fault NoSpace → length found.old < count.new }
+    ensures unwritten { (result ≡ 0 → ⊥) → found.new ≡ found.old }
+    ensures kept { StaysOpen dine.old dine.new }
+{
+    match dine.look(alloc, |arbiter| arbiter.blockers(alloc, task.task())) {
+        Ok(Some(tasks)) => write_list(&tasks, found, count),
+        Ok(None) => Refusal::Unknown.number(),
+        Err(_) => Fault::NoMemory.number(),
+    }
+}
+
+/// Writes all tasks that are ready to the front of `found`, the one with the earliest last meal first, and how many there
+/// are to `count`, and answers 0.
+///
+/// It answers `NoMemory` where memory runs out, and `NoSpace` where `found` is shorter: nothing is written then but, by the
+/// last, the count.
+#[unsafe(no_mangle)]
+pub extern "C" fn dine_ready(
+    alloc: Global,
+    dine: &mut Handle,
+    found: &mut [DineTask],
+    count: &mut usize,
+) -> u32
+    requires open { IsOpen dine.old }
+    ensures answer { (result ≡ 0) ⊎ (result ≡ number_of_fault NoMemory)
+        ⊎ (result ≡ number_of_fault NoSpace) }
+    ensures found { result ≡ 0 →
+        ListsTasks (Some (ready_of dine.old.value.table)) found.new count.new }
+    ensures space { result ≡ number_of_fault NoSpace → length found.old < count.new }
+    ensures unwritten { (result ≡ 0 → ⊥) → found.new ≡ found.old }
+    ensures kept { StaysOpen dine.old dine.new }
+{
+    match dine.look(alloc, |arbiter| arbiter.ready(alloc)) {
+        Ok(tasks) => write_list(&tasks, found, count),
         Err(_) => Fault::NoMemory.number(),
     }
 }

@@ -1,8 +1,11 @@
 //! A task's name, for C.
 
-ghost use Rattle.std.specs.Prelude.{◌≡◌, ◌≤◌, length, map, take};
-ghost use Rattle.dine_embed.specs.Acting.{name_of, task_named};
+ghost use Rattle.std.specs.Prelude.{◌≡◌, ◌⊎◌, ◌<◌, ◌≤◌, Some, length, map, take};
+ghost use Rattle.dine_embed.specs.Acting.{ListsTasks, name_of, task_named};
+ghost use Rattle.dine_embed.specs.Numbers.{number_of_fault};
+ghost use Rattle.dine_embed.specs.declared.numbers.Fault.TheVariants.{NoSpace};
 
+use crate::numbers::Fault;
 use dine_words::Task;
 
 /// The name of a task, as C keeps it. Any two numbers are a name; those of no task that is present are refused as
@@ -36,8 +39,24 @@ impl DineTask {
     }
 }
 
-/// Writes the names of tasks to the front of a place that has room for them.
-pub fn write_names(tasks: &[Task], place: &mut [DineTask])
+/// Writes the names of tasks to the front of a place, and how many there are to `count`, and answers 0. Where the place is
+/// shorter it answers `NoSpace`'s number, and writes the count alone.
+pub fn write_list(tasks: &[Task], place: &mut [DineTask], count: &mut usize) -> u32
+    ensures answer { (result ≡ 0) ⊎ (result ≡ number_of_fault NoSpace) }
+    ensures found { result ≡ 0 → ListsTasks (Some tasks.now) place.new count.new }
+    ensures space { result ≡ number_of_fault NoSpace → length place.old < count.new }
+    ensures unwritten { (result ≡ 0 → ⊥) → place.new ≡ place.old }
+{
+    *count = tasks.len();
+    if place.len() < tasks.len() {
+        return Fault::NoSpace.number();
+    }
+    write_names(tasks, place);
+    0
+}
+
+// Writes the names of tasks to the front of a place that has room for them.
+fn write_names(tasks: &[Task], place: &mut [DineTask])
     requires { length tasks.now ≤ length place.old }
     ensures length { length place.new ≡ length place.old }
     ensures names { take (length tasks.now) place.new ≡ map name_of tasks.now }

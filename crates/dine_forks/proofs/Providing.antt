@@ -1,16 +1,31 @@
 -- A new book has no ids. Where no record is vacant, the first that was never given is: there is a node more, and what holds
 -- of the others stays.
-use Rattle.dine_forks.proofs.Words.{◌≡◌, ℕ, zero, suc, get_or, ◌+◌, ◌<◌, ◌≤◌, false, true, List, [], ◌∷◌, ◌++◌, length, Option, Some, None, is_none, inl, inr, refl, sym, ap, ◌∙◌, arith, and_parts, cases_Bool, ltb, ne_eqb, or_from, nat_tests, get_or-replicate, length-append, length-replicate, replicate}
-use Rattle.dine_forks.proofs.Words.{ForkId, ForkRecord, same_id, ForkBook, Links, ListEnds, Node, blank_node, vacant, links_at, node_at, records_of, AreLinked, AreNamed, IsStored, book_of, is_listed}
-use Rattle.dine_forks.proofs.Words.{AreInRow, IsNear, IsOrdered, Lacks, RowHasIds, ids_of, row_first, row_last, hung_list, empty_list, provided_list, provided_nodes, wants_record}
+use Rattle.dine_forks.proofs.Words.{◌≡◌, ℕ, ◌+◌, ◌<◌, ◌≤◌, false, true, List, [], ◌∷◌, ◌++◌, length, Option, Some, None, is_none, inl, inr, refl, sym, subst, ap, ◌∙◌, arith, and_parts, cases_Bool, ltb, nat_tests, get_or-replicate, length-append, length-replicate, replicate, ForkId, ForkRecord, same_id, ForkBook, Links, ListEnds, Node, blank_node, vacant, links_in, list_at, node_at, records_of, AreNamed, IsStored, book_of, is_listed, AreInRow, IsNear, IsOrdered, RowHasIds, ids_of, row_first, row_last, hung_list, empty_list, provided_list, provided_nodes, wants_record}
 use Rattle.dine_forks.specs.Book.{is_full}
 use Rattle.std.specs.Prelude.{IfSome}
 use Rattle.dine_forks.proofs.Named.{is_in_use-named}
-use Rattle.dine_forks.proofs.Rows.{apart-sym, ids-is, once-append, once-front, ordered, some_last}
-use Rattle.dine_forks.proofs.Joining.{none_last}
-use Rattle.dine_forks.proofs.Same.{IsSameAll, is_row_same}
+use Rattle.dine_forks.proofs.Rows.{ids-is, none_last, ordered, some_last}
+use Rattle.dine_forks.specs.Rows.{IsMember, times}
+use Rattle.dine_forks.specs.declared.lists.Lists.TheInside.{Inside}
+use Rattle.dine_forks.proofs.RecordTests.{same_id-true}
 use Rattle.std.proofs.lemmas.List.{get_or_append_left}
 use Rattle.std.proofs.Math.Seq.{get_or-append_seam}
+
+-- the nodes that the lists are kept in
+abbrev pub nodes_of : Inside → List Node
+nodes_of b = b.records.nodes
+
+-- how many they have room for
+abbrev pub room_of : Inside → ℕ
+room_of b = b.records.room
+
+-- the ids in use
+abbrev pub used_of : Inside → List ForkId
+used_of b = ids_of (nodes_of b) b.all
+
+-- those of the vacant records
+abbrev pub free_of : Inside → List ForkId
+free_of b = ids_of (nodes_of b) b.vacant
 
 -- a new book is stored, of which no id was given
 pub stored-empty : (slots room : ℕ) → 1 ≤ slots → slots ≤ 65536 → 1 ≤ room → room ≤ 65536 → IsStored room [] (replicate slots empty_list) [] []
@@ -21,37 +36,30 @@ pub few-stored : (room : ℕ) (nodes : List Node) (lists : List ListEnds) (order
 few-stored room nodes lists order free id h lt = let fits = h.kept.given_fit in let little = h.kept.sound.little_room in omega arith
 
 -- a list that has a last record has some
-pub row-some : (nodes : List Node) (ends : ListEnds) (ids : List ForkId) → RowHasIds nodes ends ids → IfSome ends.last (λ _. 1 ≤ ends.degree)
+pub row-some : (nodes : List Node) (ends : ListEnds) (ids : List ForkId) → RowHasIds None nodes ends ids → IfSome ends.last (λ _. 1 ≤ ends.degree)
 row-some nodes ends [] h = rw h.last tt
 row-some nodes ends (x ∷ xs) h = let some = some_last xs x in let last = h.last in let long = h.degree in grind arith
 
 -- and one that has none is empty
-pub row-none : (nodes : List Node) (ends : ListEnds) (ids : List ForkId) → RowHasIds nodes ends ids → ends.last ≡ None → ends ≡ empty_list
+pub row-none : (nodes : List Node) (ends : ListEnds) (ids : List ForkId) → RowHasIds None nodes ends ids → ends.last ≡ None → ends ≡ empty_list
 row-none nodes ends ids h e =
     let none = none_last ids (sym h.last ∙ e) in
     λ j. record { first = (h.first ∙ ap (λ (l : List ForkId). row_first l None) none) j; last = e j; degree = (h.degree ∙ ap length none) j }
 
 -- behind the last of a row stands none
-row_end : (nodes : List Node) (p : Option ForkId) (x : ForkId) (xs : List ForkId) → AreInRow nodes p (x ∷ xs) None → IfSome (row_last xs (Some x)) (λ id. (node_at nodes id).all.next ≡ None)
+row_end : (nodes : List Node) (p : Option ForkId) (x : ForkId) (xs : List ForkId) → AreInRow None nodes p (x ∷ xs) None → IfSome (row_last xs (Some x)) (λ id. (node_at nodes id).all.next ≡ None)
 row_end nodes p x [] h = ap (λ (l : Links). l.next) h.0.links
 row_end nodes p x (y ∷ ys) h = row_end nodes (Some x) y ys h.1
 
 -- and so behind the last of a list
-pub list_end : (nodes : List Node) (ends : ListEnds) (ids : List ForkId) → RowHasIds nodes ends ids → IfSome ends.last (λ id. (node_at nodes id).all.next ≡ None)
+pub list_end : (nodes : List Node) (ends : ListEnds) (ids : List ForkId) → RowHasIds None nodes ends ids → IfSome ends.last (λ id. (node_at nodes id).all.next ≡ None)
 list_end nodes ends [] h = rw h.last tt
 list_end nodes ends (x ∷ xs) h = rw h.last (row_end nodes None x xs h.row)
 
 -- an id that a list lacks is none of it
-lacks_unlisted : (id : ForkId) (ids : List ForkId) → Lacks id ids → is_listed id ids ≡ false
+lacks_unlisted : (id : ForkId) (ids : List ForkId) → times id ids ≡ 0 → is_listed id ids ≡ false
 lacks_unlisted id [] h = refl
-lacks_unlisted id (x ∷ xs) h = or_from (same_id x id) (is_listed id xs) (ne_eqb x.number id.number h.0) (lacks_unlisted id xs h.1)
-
--- a node more, without neighbours, is like none to the list of all
-all-more : (nodes : List Node) (k i : ℕ) → (get_or (nodes ++ blank_node k ∷ []) i vacant).all ≡ (get_or nodes i vacant).all
-all-more [] k zero = refl
-all-more [] k (suc i) = refl
-all-more (n ∷ ns) k zero = refl
-all-more (n ∷ ns) k (suc i) = all-more ns k i
+lacks_unlisted id (x ∷ xs) h = grind (arith, lacks_unlisted id xs)
 
 module _ (nodes : List Node) where
   -- the id of the first record that was never given
@@ -70,25 +78,23 @@ module _ (nodes : List Node) where
   node-more : (id : ForkId) → id.number < length nodes → node_at more id ≡ node_at nodes id
   node-more id lt = get_or_append_left nodes (blank_node (length nodes) ∷ []) vacant id.number lt
 
-  -- no list of all changes
-  same-all : IsSameAll nodes more
-  same-all = record { long = let longer = length-append nodes (blank_node (length nodes) ∷ []) in omega arith; same = λ id. all-more nodes (length nodes) id.number }
-
   -- its record is alone
-  next-near : IsNear more next None None
-  next-near = record { within = let longer = length-append nodes (blank_node (length nodes) ∷ []) in omega arith; links = ap (λ (n : Node). n.all) (get_or-append_seam nodes (blank_node (length nodes)) [] vacant) }
+  next-near : IsNear None more next None None
+  next-near = record { within = let longer = length-append nodes (blank_node (length nodes) ∷ []) in omega arith; member = tt; links = ap (λ (n : Node). n.all) (get_or-append_seam nodes (blank_node (length nodes)) [] vacant) }
 
   -- which a row lacks
-  lacks-next : (p : Option ForkId) (ids : List ForkId) (n : Option ForkId) → AreInRow nodes p ids n → Lacks next ids
-  lacks-next p [] n h = tt
-  lacks-next p (x ∷ xs) n h = ((λ e. let same : x.number ≡ length nodes = e in let within = h.0.within in absurd (omega arith)), lacks-next (Some x) xs n h.1)
+  lacks-next : (p : Option ForkId) (ids : List ForkId) (n : Option ForkId) → AreInRow None nodes p ids n → times next ids ≡ 0
+  lacks-next p [] n h = refl
+  lacks-next p (x ∷ xs) n h = grind (arith, nat_tests, lacks-next (Some x) xs n h.1)
 
-  -- a chain by slot stays
-  linked-more : (slot : ℕ) (p : Option ForkId) (rs : List ForkRecord) (n : Option ForkId) → AreLinked slot nodes p rs n → AreLinked slot more p rs n
-  linked-more slot p [] n h = tt
-  linked-more slot p (r ∷ rs) n h =
-      let same = node-more r.id h.0.within in
-      (record { within = within-more r.id.number h.0.within; ends = h.0.ends; content = ap (λ (m : Node). m.content) same ∙ h.0.content; links = ap (links_at slot) same ∙ h.0.links }, linked-more slot (Some r.id) rs n h.1)
+  -- a list stays
+  list-more : (list : Option ℕ) (ends : ListEnds) (ids : List ForkId) → RowHasIds list nodes ends ids → RowHasIds list more ends ids
+  list-more list ends ids h = record { first = h.first; last = h.last; degree = h.degree; row = row None ids None h.row }
+    where
+      -- and so does each row
+      row : (p : Option ForkId) (ids : List ForkId) (n : Option ForkId) → AreInRow list nodes p ids n → AreInRow list more p ids n
+      row p [] n h = tt
+      row p (x ∷ xs) n h = let same = node-more x h.0.within in (record { within = within-more x.number h.0.within; member = subst (λ (m : Node). IsMember list m.content) (sym same) h.0.member; links = ap (links_in list) same ∙ h.0.links }, row (Some x) xs n h.1)
 
   -- the ids in use keep their records
   named-more : (ids : List ForkId) → AreNamed nodes ids → AreNamed more ids
@@ -119,9 +125,9 @@ module _ (room : ℕ) (nodes : List Node) (lists : List ListEnds) (all free : Li
   -- where none is vacant and one was never given, it is
   next-provided : free.last ≡ None → length nodes < room → IsProvided (book_of room nodes lists used) room (more nodes) lists all one
   next-provided none left =
-      let named = stored.indexed.named in
-      let same = ids-is (more nodes) all used (is_row_same nodes (more nodes) (same-all nodes) all used both.used) in
-      let row : RowHasIds (more nodes) one (next nodes ∷ []) = record { first = refl; last = refl; degree = refl; row = (next-near nodes, tt) } in
+      let named = stored.named in
+      let same = ids-is (more nodes) all used (list-more nodes None all used both.used) in
+      let row : RowHasIds None (more nodes) one (next nodes ∷ []) = record { first = refl; last = refl; degree = refl; row = (next-near nodes, tt) } in
       let rest = ids-is (more nodes) one (next nodes ∷ []) row in
       let lacks = lacks-next nodes None used None both.used.row in
       let records = records-more nodes used named in
@@ -136,13 +142,10 @@ module _ (room : ℕ) (nodes : List Node) (lists : List ListEnds) (all free : Li
             all_ids = omega arith;
             given_fit = omega arith;
           };
-          indexed = record {
-            named = named-more nodes used named;
-            free_within = ((next-near nodes).within, tt);
-            listed = λ slot below. let l = stored.indexed.listed slot below in rw records record { first = l.first; last = l.last; degree = l.degree; linked = linked-more nodes slot None _ None l.linked };
-          };
+          named = named-more nodes used named;
+          listed = λ slot below. rw records (list-more nodes (Some slot) (list_at lists slot) _ (stored.listed slot below));
         };
-        ordered = ordered (more nodes) all one used (next nodes ∷ []) (is_row_same nodes (more nodes) (same-all nodes) all used both.used) row (once-append used (next nodes ∷ []) (once-front used (ids_of nodes free) both.once) (tt, tt) (apart-sym (next nodes ∷ []) used (lacks, tt)));
+        ordered = ordered (more nodes) all one used (next nodes ∷ []) (list-more nodes None all used both.used) row (λ k. let o = both.once k in grind (arith, lacks, same_id-true (next nodes) k));
         same = ap (book_of room (more nodes) lists) same ∙ ap (λ (rs : List ForkRecord). record { slots = length lists; room = room; records = rs }) records;
         full = λ e. cc;
       }

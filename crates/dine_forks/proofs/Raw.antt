@@ -18,8 +18,7 @@ unfoldable pub use contract.Running.{tables, tables_of}
 pub use contract.Running.{Running}
 pub use prog.Model.{Model}
 pub use sound.WpLaws.{WpFn-mono, FmC, fm_of}
-pub use types.Kit.{Item, ⋆, ‵, raw, ◌⊛◌, later, await, at_ret, ◌$◌, ◌∵◌, !, qed, by, move, keep, use0, use1, use2, use3, split, join, fsplit, fsplit3, fjoin, feq_l, suffices, frame, done}
-pub use types.Kit.{flt_l, flt_i, any_q, given, learn, group, rewrite, feq_i, drop, some, pick, fjoin3, fpack, fpick, Goal, Seq, Step, step}
+pub use types.Kit.{Item, ⋆, ‵, raw, ◌⊛◌, later, await, at_ret, ◌$◌, ◌∵◌, !, qed, by, move, keep, use0, use1, use2, use3, split, join, fsplit, fsplit3, fjoin, feq_l, suffices, frame, done, flt_l, flt_i, any_q, given, learn, group, rewrite, feq_i, drop, some, pick, fjoin3, fpack, fpick, Goal, Seq, Step, step}
 pub use types.Part.{whole, agg, sub}
 pub use types.Run.{stop, fld, lit, of_opd, and_then, no_more, first, exec, returns, enter, bin, size_word, align_word, switches_on, unit_lit, blocks, addr, size_lit, init, assigns_last}
 pub use types.ByLocal.{alloc_all, pass_all, free_all, look_at, get, get_in, sets, sets_last, is, env, get_tag, lands_as, lands_last, through, take_at, give_at}
@@ -56,8 +55,7 @@ pub use denote.Struct.Struct.{Shape, Struct, Struct-Makes, within}
 pub use denote.Triple.Statement.{Triple}
 pub use denote.Triple.Call.{calls_at, calls_at_last}
 pub use Rattle.std.specs.Vec.Ownership.{FitsInBlock}
-pub use Rattle.std.proofs.alloc.Calls.{Al, second, Answer-typed, takes_key, Takes, at_takes, Answered, Takes-goes, Takes-gives, answers, Goes-blank, token, gives_key, Gives, at_gives}
-pub use Rattle.std.proofs.alloc.Calls.{Gives-goes, Gives-Gives}
+pub use Rattle.std.proofs.alloc.Calls.{Al, second, Answer-typed, takes_key, Takes, at_takes, Answered, Takes-goes, Takes-gives, answers, Goes-blank, token, gives_key, Gives, at_gives, Gives-goes, Gives-Gives}
 pub use Rattle.std.proofs.ResultValues.{ok_of, err_of}
 pub use base.Fraction.{full_share}
 pub use denote.Opens.{hide, unhide}

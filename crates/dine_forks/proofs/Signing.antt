@@ -1,7 +1,5 @@
 -- What the signatures of slots tell of records, and how they follow a record that comes, goes or changes its fork.
-use Rattle.dine_forks.proofs.Words.{◌≡◌, ◌≢◌, ℕ, ◌==◌, ◌<◌, ◌≤◌, true, false, cond, List, [], ◌∷◌, ◌++◌, length, None, inl, inr, refl, ap, ◌∙◌, arith, nat_tests}
-use Rattle.dine_forks.proofs.Words.{eqb-true, eq-eqb, filter, length-set, get_or-set_same, get_or-set_other, Fork, ForkBook, ForkId, ForkRecord}
-use Rattle.dine_forks.proofs.Words.{id_between, is_between, slot_list, with_fork, without}
+use Rattle.dine_forks.proofs.Words.{◌≡◌, ◌≢◌, ℕ, ◌==◌, ◌<◌, ◌≤◌, true, false, cond, List, [], ◌∷◌, ◌++◌, length, None, inl, inr, refl, ap, ◌∙◌, arith, nat_tests, eqb-true, eq-eqb, filter, length-set, get_or-set_same, get_or-set_other, Fork, ForkBook, ForkId, ForkRecord, id_between, is_between, slot_list, with_fork, without}
 use Rattle.std.proofs.Common.{◌%◌, ◌^◌, max, bit_or}
 use Rattle.std.specs.Int.{bit_at}
 use Rattle.std.proofs.lemmas.Bool.{cases_eq}

@@ -33,17 +33,13 @@ module _ (words : List ℕ) (place : ℕ) (within : place / 64 < length words) w
     words_stay = λ other apart. get_or-set_other words (place / 64) other word 0 apart;
   }
 
-  -- a place has its index within a word
-  index : place % 64 < 64
-  index = omega arith
-
   -- the bit of a place is set
   pub put-set : IsPut words place 1 (set words (place / 64) (bit_or (get_or words (place / 64) 0) (1 * 2 ^ (place % 64) % 2 ^ 64)))
-  put-set = put _ 1 (bit_at_set_same w64 (get_or words (place / 64) 0) (place % 64) index) (λ i below differs. bit_at_set_other w64 (get_or words (place / 64) 0) (place % 64) index i differs)
+  put-set = put _ 1 (bit_at_set_same w64 (get_or words (place / 64) 0) (place % 64) (omega arith)) (λ i below differs. bit_at_set_other w64 (get_or words (place / 64) 0) (place % 64) (omega arith) i differs)
 
   -- the bit of a place is cleared
   pub put-clear : IsPut words place 0 (set words (place / 64) (bit_and (get_or words (place / 64) 0) (bit_not w64 (1 * 2 ^ (place % 64) % 2 ^ 64))))
-  put-clear = put _ 0 (bit_at_clear_same w64 (get_or words (place / 64) 0) (place % 64) index) (λ i below differs. bit_at_clear_other w64 (get_or words (place / 64) 0) (place % 64) index i below differs)
+  put-clear = put _ 0 (bit_at_clear_same w64 (get_or words (place / 64) 0) (place % 64) (omega arith)) (λ i below differs. bit_at_clear_other w64 (get_or words (place / 64) 0) (place % 64) (omega arith) i below differs)
 
 -- ---- the members by their bits
 
@@ -73,43 +69,29 @@ zero_word zero k = refl
 zero_word (suc n) zero = refl
 zero_word (suc n) (suc k) = zero_word n k
 
--- they have no bit that is set
-bit-none : (n place : ℕ) → bit_in (no_words n) place ≡ 0
-bit-none n place = ap (λ w. bit_at w (place % 64)) (zero_word n (place / 64)) ∙ bit_at-zero (place % 64)
-
 -- so no slot is a member
-pub members-none : (slots n : ℕ) → members_of slots (no_words n) ≡ replicate slots false
-members-none slots n =
-    sym (fill_by_all (λ k. bit_in (no_words n) k == 1) (replicate slots false) slots false (length-replicate slots false) (λ k below. get_or-replicate slots k false false below ∙ ap (λ b. b == 1) (sym (bit-none n k))))
+pub members_none : (slots n : ℕ) → members_of slots (no_words n) ≡ replicate slots false
+members_none slots n =
+    sym (fill_by_all (λ k. bit_in (no_words n) k == 1) (replicate slots false) slots false (length-replicate slots false) (λ k below. get_or-replicate slots k false false below ∙ ap (λ b. b == 1) (sym (ap (λ w. bit_at w (k % 64)) (zero_word n (k / 64)) ∙ bit_at-zero (k % 64)))))
 
 -- a list is all true where each of its places is
 pub all-true : (xs : List Bool) (n : ℕ) → length xs ≡ n → ((k : ℕ) → k < n → get_or xs k false ≡ true) → xs ≡ replicate n true
 all-true xs n len each =
     fill_by_all (λ k. true) xs n false len each ∙ sym (fill_by_all (λ k. true) (replicate n true) n false (length-replicate n true) (λ k below. get_or-replicate n k true false below))
 
--- once the next place is made true, one place more is
-pub one-more : (xs : List Bool) (i : ℕ) → i < length xs → ((k : ℕ) → k < i → get_or xs k false ≡ true) → (k : ℕ) → k < i + 1 → get_or (set xs i true) k false ≡ true
-one-more xs i lt each k below = grind (arith, get_or-set_same xs i true false lt, get_or-set_other xs i k true false, each k)
-
 -- ---- the first bit that is set
 
--- the first member is the first slot whose bit is set
-first-is : (xs : List Bool) (from k : ℕ) → from ≤ k → k ≤ length xs → ((j : ℕ) → from ≤ j → j < k → get_or xs j false ≡ false) → (k < length xs → get_or xs k false ≡ true) → from + prefix_len not (drop from xs) ≡ k
-first-is xs from k lo hi before here =
-    let len = length-drop from xs in
-    let back : from + (k - from) ≡ k = omega arith in
-    let found : prefix_len not (drop from xs) ≡ k - from = prefix_len_is not (drop from xs) (k - from) false (omega arith)
-    (λ j less. ap not (get_or-drop from xs j false ∙ before (from + j) (omega arith) (omega arith)))
-    (λ less. ap not (get_or-drop from xs (k - from) false ∙ ap (λ n. get_or xs n false) back ∙ here (omega arith))) in
-    omega arith
-
--- so where a search by the bits comes to, it comes to the first member
+-- where a search by the bits comes to, it comes to the first member
 first_member-is : (slots : ℕ) (words : List ℕ) (from found : ℕ) → IsFirstSet (bit_in words) from slots found → found ≡ first_member from (members_of slots words)
 first_member-is slots words from found first =
-    let len = length-members slots words in
-    let bit : (j : ℕ) → j < slots → (digit : ℕ) → bit_in words j ≡ digit → get_or (members_of slots words) j false ≡ (digit == 1) = λ j lt digit is. members-at slots words j lt ∙ ap (λ n. n == 1) is in
-    sym (first-is (members_of slots words) from found first.from_there (omega (arith, first.within))
-    (λ j lo hi. bit j (omega (arith, first.within)) 0 (first.before j lo hi)) (λ lt. bit found (omega arith) 1 (first.here (omega arith))))
+    let members = members_of slots words in let len = length-members slots words in let rest = length-drop from members in
+    let lo = first.from_there in let hi = first.within in
+    let at : (j digit : ℕ) → from + j < slots → bit_in words (from + j) ≡ digit → get_or (drop from members) j false ≡ (digit == 1) = λ j digit lt is. get_or-drop from members j false ∙ members-at slots words (from + j) lt ∙ ap (λ n. n == 1) is in
+    let back : found ≡ from + (found - from) = omega arith in
+    let stop : prefix_len not (drop from members) ≡ found - from = prefix_len_is not (drop from members) (found - from) false (omega arith)
+    (λ j less. ap not (at j 0 (omega arith) (first.before (from + j) (omega arith) (omega arith))))
+    (λ less. ap not (at (found - from) 1 (omega arith) (ap (bit_in words) (sym back) ∙ first.here (omega arith)))) in
+    omega arith
 
 module _ (word from : ℕ) where
   -- what a mask leaves of a word: its bits from one on
@@ -120,13 +102,9 @@ module _ (word from : ℕ) where
   kept-bit : (i : ℕ) → from ≤ i → i < 64 → bit_at left i ≡ bit_at word i
   kept-bit i lo hi = let digit = bit_at-lt word i in bit_at_and word (2 ^ 64 - 2 ^ from) i ∙ ap (min (bit_at word i)) (bit_at_mask_inside from 64 i lo hi) ∙ omega arith
 
-  -- and none of those below
-  cut-bit : (i : ℕ) → i < from → bit_at left i ≡ 0
-  cut-bit i h = bit_at_and word (2 ^ 64 - 2 ^ from) i ∙ ap (min (bit_at word i)) (bit_at_mask_below from 64 i h) ∙ omega arith
-
-  -- so the zeros of what is left end at the first bit that is set, from there on
-  first_left : word < 2 ^ 64 → from < 64 → IsFirstSet (bit_at word) from 64 (trailing_zeros w64 left)
-  first_left fits lt = elim (cases_eq left 0) [
+  -- the first bit that is set, of those from one on, stands behind the zeros of what the mask leaves
+  pub first_bit_is : word < 2 ^ 64 → from < 64 → IsFirstSet (bit_at word) from 64 (trailing_zeros w64 (bit_and word ((2 ^ 64 - 1) * 2 ^ from % 2 ^ 64)))
+  first_bit_is fits lt = subst (λ mask. IsFirstSet (bit_at word) from 64 (trailing_zeros w64 (bit_and word mask))) (sym (ones_shl 64 from (omega arith))) (elim (cases_eq left 0) [
     | inl nothing ↦ subst (λ t. IsFirstSet (bit_at word) from 64 t) (sym (ap (trailing_zeros w64) nothing ∙ trailing_of_zero 64)) record {
       from_there = omega arith;
       within = omega arith;
@@ -138,7 +116,7 @@ module _ (word from : ℕ) where
         let lowest = bit_at-trailing_zeros w64 left (omega arith) (omega arith) in
         let within : trailing_zeros w64 left < 64 = lowest.0 in
         let reached : from ≤ trailing_zeros w64 left = elim (cases_lt (trailing_zeros w64 left) from) [
-          | inl early ↦ absurd (let wrong : 0 ≡ 1 = sym (cut-bit (trailing_zeros w64 left) early) ∙ lowest.1 in omega arith)
+          | inl early ↦ absurd (let wrong : 0 ≡ 1 = sym (bit_at_and word (2 ^ 64 - 2 ^ from) (trailing_zeros w64 left) ∙ ap (min (bit_at word (trailing_zeros w64 left))) (bit_at_mask_below from 64 (trailing_zeros w64 left) early) ∙ omega arith) ∙ lowest.1 in omega arith)
           | inr late ↦ late
         ] in
         record {
@@ -147,11 +125,7 @@ module _ (word from : ℕ) where
           before = λ i lo hi. sym (kept-bit i lo (omega arith)) ∙ lowest.2 i hi;
           here = λ below. sym (kept-bit (trailing_zeros w64 left) reached below) ∙ lowest.1;
         }
-  ]
-
-  -- the first bit that is set, of those from one on, stands behind the zeros of what the mask leaves
-  pub first_bit-is : word < 2 ^ 64 → from < 64 → IsFirstSet (bit_at word) from 64 (trailing_zeros w64 (bit_and word ((2 ^ 64 - 1) * 2 ^ from % 2 ^ 64)))
-  first_bit-is fits lt = subst (λ mask. IsFirstSet (bit_at word) from 64 (trailing_zeros w64 (bit_and word mask))) (sym (ones_shl 64 from (omega arith))) (first_left fits lt)
+  ])
 
 -- the bit of a place, by its word
 bit-of_word : (words : List ℕ) (word place : ℕ) → 64 * word ≤ place → place < 64 * word + 64 → bit_in words place ≡ bit_at (get_or words word 0) (place - 64 * word)
@@ -167,10 +141,6 @@ module _ (words : List ℕ) (from word skipped bit : ℕ) (before : (place : ℕ
     | inl early ↦ before place lo early
     | inr late ↦ bit-of_word words word place (omega arith) (omega (arith, first.within)) ∙ first.before (place - 64 * word) (omega arith) (omega arith)
   ]
-
-  -- a word with no such bit is passed over
-  pub word-passed : 64 ≤ bit → (place : ℕ) → from ≤ place → place < 64 * (word + 1) + 0 → bit_in words place ≡ 0
-  word-passed none place lo hi = before_bit place lo (omega arith)
 
   -- a word with one ends the search
   pub word-found : bit < 64 → from ≤ 64 * word + skipped → word < length words → IsFirstSet (bit_in words) from (64 * length words) (64 * word + bit)
@@ -231,23 +201,26 @@ module _ (s : Inside) {now : List Bool} (is : members_of s.slots s.words.items �
       set_word : IsPut s.words.items slot 1 (set s.words.items (slot / 64) (bit_or w (1 * 2 ^ (slot % 64) % 2 ^ 64)))
       set_word = subst (λ n. IsPut s.words.items slot 1 (set s.words.items (slot / 64) (bit_or n (1 * 2 ^ (slot % 64) % 2 ^ 64)))) (sym word) (put-set s.words.items slot (has_bits slot lt).word)
 
-      -- the word is 0 no more then
-      not_zero : get_or (set s.words.items (slot / 64) (bit_or w (1 * 2 ^ (slot % 64) % 2 ^ 64))) (slot / 64) 0 ≢ 0
-      not_zero e =
-          let off : bit_in (set s.words.items (slot / 64) (bit_or w (1 * 2 ^ (slot % 64) % 2 ^ 64))) slot ≡ 0 = ap (λ n. bit_at n (slot % 64)) e ∙ bit_at-zero (slot % 64) in
-          let on = set_word.here in
-          omega arith
+      -- the word isn't 0 then
+      set_some : get_or (set s.words.items (slot / 64) (bit_or w (1 * 2 ^ (slot % 64) % 2 ^ 64))) (slot / 64) 0 ≢ 0
+      set_some e = let off : bit_in (set s.words.items (slot / 64) (bit_or w (1 * 2 ^ (slot % 64) % 2 ^ 64))) slot ≡ 0 = ap (λ n. bit_at n (slot % 64)) e ∙ bit_at-zero (slot % 64) in let on = set_word.here in omega arith
 
       -- a slot is put in
       pub insert-kept : (v : ℕ) → v ≡ get_or s.marks.items (slot / 64 / 64) v → MarksWords s.slots (set s.words.items (slot / 64) (bit_or w (1 * 2 ^ (slot % 64) % 2 ^ 64))) (set s.marks.items (slot / 64 / 64) (bit_or v (1 * 2 ^ (slot / 64 % 64) % 2 ^ 64)))
       insert-kept v mark =
           let at = (has_bits slot lt).mark in
           let marks = subst (λ n. IsPut s.marks.items (slot / 64) 1 (set s.marks.items (slot / 64 / 64) (bit_or n (1 * 2 ^ (slot / 64 % 64) % 2 ^ 64)))) (sym (mark ∙ get_or_default_zero s.marks.items (slot / 64 / 64) v at)) (put-set s.marks.items (slot / 64) at) in
-          marked-put 1 1 _ _ set_word marks (sym (ne_eqb (get_or (set s.words.items (slot / 64) (bit_or w (1 * 2 ^ (slot % 64) % 2 ^ 64))) (slot / 64) 0) 0 not_zero))
+          marked-put 1 1 _ _ set_word marks (sym (ne_eqb (get_or (set s.words.items (slot / 64) (bit_or w (1 * 2 ^ (slot % 64) % 2 ^ 64))) (slot / 64) 0) 0 set_some))
+
+      -- a slot is put in whose word wasn't 0, so its mark stays
+      pub insert_kept : w ≢ 0 → MarksWords s.slots (set s.words.items (slot / 64) (bit_or w (1 * 2 ^ (slot % 64) % 2 ^ 64))) s.marks.items
+      insert_kept some =
+          marked-put 1 (bit_in s.marks.items (slot / 64)) _ _ set_word (record { len = refl; here = refl; others = λ other apart. refl; words_stay = λ other apart. refl })
+          (kept.marked (slot / 64) ∙ ne_eqb (get_or s.words.items (slot / 64) 0) 0 (λ e. some (word ∙ e)) ∙ sym (ne_eqb (get_or (set s.words.items (slot / 64) (bit_or w (1 * 2 ^ (slot % 64) % 2 ^ 64))) (slot / 64) 0) 0 set_some))
 
       -- the slot is a member then
-      pub insert-members : members_of s.slots (set s.words.items (slot / 64) (bit_or w (1 * 2 ^ (slot % 64) % 2 ^ 64))) ≡ set now slot true
-      insert-members = members-put s.slots s.words.items _ slot 1 (has_bits slot lt).below set_word ∙ ap (λ members. set members slot true) is
+      pub insert_members : members_of s.slots (set s.words.items (slot / 64) (bit_or w (1 * 2 ^ (slot % 64) % 2 ^ 64))) ≡ set now slot true
+      insert_members = members-put s.slots s.words.items _ slot 1 (has_bits slot lt).below set_word ∙ ap (λ members. set members slot true) is
 
       -- the word without the slot's bit
       abbrev without : ℕ
@@ -269,19 +242,16 @@ module _ (s : Inside) {now : List Bool} (is : members_of s.slots s.words.items �
           marked-put 0 0 _ _ clear_word marks (ap (λ n. n == 0) (sym (written ∙ empty)))
 
       -- a slot is taken out, and its word isn't empty: it wasn't before, so its mark stays
-      pub remove-kept : without ≢ 0 → MarksWords s.slots (set s.words.items (slot / 64) without) s.marks.items
-      remove-kept some =
+      pub remove_kept : without ≢ 0 → MarksWords s.slots (set s.words.items (slot / 64) without) s.marks.items
+      remove_kept some =
           let le : without ≤ w = and_le_l w _ in
-          let was : get_or s.words.items (slot / 64) 0 ≢ 0 = λ e. some (none le (word ∙ e)) in
+          let was : get_or s.words.items (slot / 64) 0 ≢ 0 = λ e. some (let empty = word ∙ e in omega arith) in
           marked-put 0 (bit_in s.marks.items (slot / 64)) _ _ clear_word (record { len = refl; here = refl; others = λ other apart. refl; words_stay = λ other apart. refl })
           (kept.marked (slot / 64) ∙ ne_eqb (get_or s.words.items (slot / 64) 0) 0 was ∙ sym (ne_eqb (get_or (set s.words.items (slot / 64) without) (slot / 64) 0) 0 (λ e. some (sym written ∙ e))))
-        where
-          none : without ≤ w → w ≡ 0 → without ≡ 0
-          none le e = omega arith
 
       -- the slot is no member then
-      pub remove-members : members_of s.slots (set s.words.items (slot / 64) without) ≡ set now slot false
-      remove-members = members-put s.slots s.words.items _ slot 0 (has_bits slot lt).below clear_word ∙ ap (λ members. set members slot false) is
+      pub remove_members : members_of s.slots (set s.words.items (slot / 64) without) ≡ set now slot false
+      remove_members = members-put s.slots s.words.items _ slot 0 (has_bits slot lt).below clear_word ∙ ap (λ members. set members slot false) is
 
   -- ---- the search for the first member
 
@@ -327,7 +297,7 @@ module _ (s : Inside) {now : List Bool} (is : members_of s.slots s.words.items �
         -- no slot before it is a member
         passed : (place : ℕ) → from ≤ place → place / 64 < next → bit_in s.words.items place ≡ 0
         passed place lo hi = elim (cases_lt place (64 * (from / 64 + 1) + 0)) [
-          | inl near ↦ word-passed s.words.items from (from / 64) (from % 64) bit nothing_yet first none place lo near
+          | inl near ↦ before_bit s.words.items from (from / 64) (from % 64) bit nothing_yet first place lo (omega arith)
           | inr far ↦
               let off : bit_in s.marks.items (place / 64) ≡ 0 = mark.before (place / 64) (omega arith) hi in
               let word : get_or s.words.items (place / 64) 0 ≡ 0 = eqb-true (get_or s.words.items (place / 64) 0) 0 (sym (kept.marked (place / 64)) ∙ ap (λ d. d == 0) off) in

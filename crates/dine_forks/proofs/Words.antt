@@ -1,53 +1,31 @@
 -- The words that the proofs of the book are written in: those of std and of specs/, and a few of their own.
-pub use Rattle.std.proofs.Common.{[], ◌*◌, ◌++◌, ◌+◌, ◌-◌, ◌/◌, ◌<◌, ◌==◌, ◌||◌, ◌∙◌, ◌∷◌, ◌≡◌, ◌≢◌, ◌≤◌, Bool, List, None, Option, Some, ap, append-nil, arith, cond, drop, eqb, false, get_or}
-pub use Rattle.std.proofs.Common.{if◌then◌else◌, inl, inr, length, length-append, ltb, map, not, refl, replicate, rules, set, subst, suc, sym, take, true, zero, ℕ}
+pub use Rattle.std.proofs.Common.{◌%◌, ◌⊎◌, ◌&&◌, [], ◌*◌, ◌++◌, ◌+◌, ◌-◌, ◌/◌, ◌<◌, ◌==◌, ◌||◌, ◌∙◌, ◌∷◌, ◌≡◌, ◌≢◌, ◌≤◌, Bool, List, None, Option, Some, ap, append-nil, arith, cond, drop, eqb, false, get_or, if◌then◌else◌, inl, inr, length, length-append, ltb, map, not, refl, replicate, rules, set, subst, suc, sym, take, true, zero, ℕ}
 pub use Rattle.std.proofs.Math.Bool.{beq}
 pub use Rattle.std.proofs.Math.Seq.{take-append_seam}
 pub use Rattle.std.proofs.lemmas.Bool.{and_parts, cases_Bool, cases_lt, eq-eqb, eqb-false, eqb-true, false≢true, le-leb, le-ltb, lt-ltb, ne_eqb, not-true, or_from, or_left, or_parts, or_right}
 pub use Rattle.std.proofs.lemmas.Bool.Decides.{nat_tests}
 pub use Rattle.std.proofs.lemmas.Grind.{common_steps, get_or-set_at}
 pub use Rattle.std.proofs.Math.ListN.{get_or-map}
-pub use Rattle.std.proofs.lemmas.List.{get_or-replicate, get_or-set_other, get_or-set_same, get_or_default, length-map, length-replicate, length-set, map-append, map-set, set-get_or, set_past}
+pub use Rattle.std.proofs.lemmas.List.{get_or-replicate, get_or-set_other, get_or-set_same, get_or_default, length-map, length-replicate, length-set, map-append, map-set, set-get_or, set_comm, set_past}
 pub use Rattle.std.proofs.lemmas.List.Elements.{filter-append}
 pub use Rattle.std.proofs.lemmas.List.Sums.{sum_by-cons}
 pub use Rattle.std.specs.List.{filter, list_all, list_any, sum_by}
 pub use Rattle.std.specs.Option.{is_none, option_map, option_or}
-pub use Rattle.dine_forks.specs.Asking.{IsTiedBefore, answer_messages, answered, asked_at, asked_book, asked_fork, asking_messages, can_ask, requests_of}
-pub use Rattle.dine_forks.specs.Asking.{settled_at, settled_book, settled_fork, writes_of}
-pub use Rattle.dine_forks.specs.Blocks.{AreCells, AreLeft, Block, Cell, Hook, InBlock, IsBlock, IsCell, IsIn, IsNamed, IsSameBlock, IsWritten, Part, Place, Ptr, blank_node, block_nodes, cell_in, cell_index}
-pub use Rattle.dine_forks.specs.Blocks.{cell_or, cell_place, fork_in, label_of, link_in, linked_id, node_in, node_of, nodes_from, number_at, number_in, number_or, place_at, put_link, the_row, vacant_cell}
-pub use Rattle.dine_forks.specs.Blocks.{with_link, with_pointer}
-pub use Rattle.dine_forks.specs.Book.{ForkBook, EachIdOnce, EachPairOnce, EndsAreSlots, Fork, ForkId, ForkRecord, IsBook, Onward, are_joined, behind, book_with_fork, change_fork, changed_where}
-pub use Rattle.dine_forks.specs.Book.{empty_book, ends_of, first_id, given_back_to, has_id, holds, id_below, id_between, is_between, is_end, is_in_use, other_end, put_fork, reached, record_of}
-pub use Rattle.dine_forks.specs.Book.{same_id, slot_list, dirtied, with_changed_fork, with_fork, with_record, with_token, without}
-pub use Rattle.dine_forks.specs.Giving.{IsGivingBefore, sent_at, sent_fork}
-pub use Rattle.dine_forks.specs.Counts.{AreAsked, AreAskedBefore, AreLacked, AreLackedBefore, AreLacking, CanAdd, CanAsk, CanPass, CanRemove, Count, HasAdded, HasPassed, HasRemoved, CountsEachSlot, askeds, changed, count_at, lackeds, no_count, relieved, with_less, with_more}
-pub use Rattle.dine_forks.specs.Hands.{Hands}
-pub use Rattle.dine_forks.specs.Held.{CanGo, given_up_at, given_up_fork, holder, is_asked_of, is_holder, is_non_holder}
-pub use Rattle.dine_forks.specs.Held.{non_holder, dirtied_at, dirtied_fork, requester, requests_at, times_asked}
-pub use Rattle.dine_forks.specs.Kept.{AllListed, AreFree, AreNamed, AreWithin, IsKeptBook, IsStored, book_of, is_listed}
+pub use Rattle.dine_forks.specs.Blocks.{AreCells, AreLeft, Block, Cell, InBlock, IsBlock, IsCell, IsIn, IsSameBlock, IsWritten, Part, Place, Ptr, block_nodes, cell_in, cell_index, cell_or, cell_place, fork_in, label_of, link_in, linked_id, node_in, node_of, number_at, number_in, number_or, place_at, put_link, the_row, vacant_cell, with_link, with_pointer}
+pub use Rattle.dine_forks.specs.Book.{ForkBook, EachIdOnce, EachPairOnce, EndsAreSlots, Fork, ForkId, ForkRecord, IsBook, Onward, are_joined, behind, book_with_fork, changed_where, empty_book, ends_of, first_id, has_id, holds, id_below, id_between, is_between, is_end, is_in_use, other_end, put_fork, reached, record_of, same_id, slot_list, dirtied, with_fork, with_record, without}
+pub use Rattle.dine_forks.specs.Counts.{AreCountedEnds, CanAdd, CanCount, CanRemove, IsCounted, Count, IsTied, counted_less, counted_more, count_at, count_in, count_with, count_without, asker_set, both_recounted, is_asked, is_member, kept_set, lacks, no_count, one_if, recounted, relieved}
+pub use Rattle.dine_forks.specs.Held.{dirtied_at, dirtied_fork, end_with, holder, is_asked_of, is_holder, is_non_holder, non_holder, requester}
+pub use Rattle.dine_forks.specs.Kept.{AllListed, AreFree, AreNamed, IsKeptBook, IsStored, book_of, is_listed}
 pub use Rattle.dine_forks.specs.Lends.{with_slots}
-pub use Rattle.dine_forks.specs.Lists.{AreLinked, CanHang, HasPlace, IsLinked, IsListed, Links, ListEnds, Node, blank, cut_list, cut_lists, cut_nodes, cut_nodes_in, empty_list, first_or, forked, forked_nodes}
-pub use Rattle.dine_forks.specs.Lists.{hung_list, hung_lists, hung_nodes, hung_nodes_in, last_or, links_at, links_in, list_at, no_links, node_at, put_links_in, put_next_in}
-pub use Rattle.dine_forks.specs.Lists.{put_previous_in, record_at, records_of, renewed, renewed_nodes, vacant, with_links, with_links_in}
+pub use Rattle.dine_forks.specs.Lists.{CanHang, HasPlace, Links, ListEnds, Node, blank, blank_node, cut_list, cut_lists, cut_nodes_in, empty_list, forked, forked_nodes, hung_list, hung_lists, hung_nodes_in, links_at, links_in, list_at, no_links, node_at, put_links_in, put_next_in, put_previous_in, record_at, records_of, renewed, renewed_nodes, vacant, with_links_in}
 pub use Rattle.dine_forks.specs.Places.{IsFilledAt}
-pub use Rattle.dine_forks.specs.Rows.{AreInRow, AreOnce, IsNear, IsOrdered, RowHasIds, Lacks, ids_from, ids_of, row_first, row_last}
-pub use Rattle.dine_forks.specs.Taking.{HasTaken, Records, provided_list, provided_nodes, wants_record, with_given}
+pub use Rattle.dine_forks.specs.Rows.{AreInRow, IsNear, IsOrdered, RowHasIds, ids_from, ids_of, row_first, row_last}
+pub use Rattle.dine_forks.specs.Taking.{HasTaken, Records, provided_list, provided_nodes, wants_record}
 pub use Rattle.dine_forks.specs.Search.{place_between, records_read, searched_end}
-pub use Rattle.dine_forks.specs.Marks.{IsTied, dirtied_record, is_marked, own_dirtied_at, own_dirtied_fork, seen_book, seen_record}
+pub use Rattle.dine_forks.specs.Marks.{IsSeenAlike, dirtied_record, is_marked, own_dirtied_at, own_dirtied_fork, seen_book, seen_record}
+pub use Rattle.dine_forks.specs.Sending.{after, messages_in}
+pub use Rattle.dine_forks.specs.Walking.{CanPut, CanStep, DoMeet, HasStepped, IsTiedBut, IsSided, is_met_at, is_reached, is_reached_at, times_reached, walked_at, walked_book, walked_fork}
 
 -- the ids without this one
 abbrev pub without_id : ForkId → List ForkId → List ForkId
 without_id id ids = filter (λ other. not (same_id other id)) ids
-
--- the record under the id has these neighbours in the list of the slot
-abbrev pub put_links : ℕ → ForkId → Links → List Node → List Node
-put_links slot = put_links_in (Some slot)
-
--- the record, if there is one, is followed by the other
-abbrev pub put_next : ℕ → Option ForkId → Option ForkId → List Node → List Node
-put_next slot = put_next_in (Some slot)
-
--- the record, if there is one, follows the other
-abbrev pub put_previous : ℕ → Option ForkId → Option ForkId → List Node → List Node
-put_previous slot = put_previous_in (Some slot)

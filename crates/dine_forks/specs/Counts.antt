@@ -1,117 +1,126 @@
--- How many forks each slot lacks, and is asked for: numbers that are kept beside its list.
-use Rattle.std.specs.Prelude.{◌≡◌, ℕ, ◌+◌, ◌-◌, ◌==◌, ◌<◌, ◌≤◌, Bool, true, false, if◌then◌else◌, List, length, map, filter, slice_index_or, slice_set}
-use Rattle.std.specs.List.{list_all}
-pub use Rattle.dine_forks.specs.declared.hands.Count.{Count}
-use Rattle.dine_forks.specs.Book.{ForkBook, ForkRecord, holds, slot_list}
-use Rattle.dine_forks.specs.Held.{holder, is_asked_of, is_non_holder, non_holder, requests_at}
+-- How many forks each slot lacks, and is asked for, and which slots lack some: what is kept beside the lists.
+use Rattle.std.specs.Prelude.{◌≡◌, ◌≢◌, ℕ, ◌+◌, ◌-◌, ◌==◌, ◌<◌, ◌≤◌, Bool, true, false, not, ◌&&◌, if◌then◌else◌, List, length, filter, slice_index_or, slice_set}
+pub use Rattle.dine_forks.specs.declared.counts.Count.{Count}
+use Rattle.dine_forks.specs.declared.rules.Reach.{Reach}
+use Rattle.dine_forks.specs.declared.rules.Reach.TheVariants as reach
+use Rattle.dine_forks.specs.Book.{Fork, ForkBook, ForkRecord}
+use Rattle.dine_forks.specs.Held.{is_asked_of, is_non_holder}
 
 -- a slot that lacks no fork, and is asked for none
 abbrev pub no_count : Count
 no_count = record { lacked = 0; asked = 0 }
 
--- how many forks each slot lacks
-abbrev pub lackeds : List Count → List ℕ
-lackeds counts = map (λ (c : Count). c.lacked) counts
+-- the count of the slot
+abbrev pub count_at : List Count → ℕ → Count
+count_at counts slot = slice_index_or counts slot no_count
 
--- and how many that it has it is asked for
-abbrev pub askeds : List Count → List ℕ
-askeds counts = map (λ (c : Count). c.asked) counts
+-- ---- one fork
 
--- ---- one number changes
+-- 1 where it is so, and else 0
+abbrev pub one_if : Bool → ℕ
+one_if b = if b then 1 else 0
 
--- the number of the slot
-abbrev pub count_at : List ℕ → ℕ → ℕ
-count_at numbers slot = slice_index_or numbers slot 0
+-- the first end lacks the fork, or the second
+abbrev pub lacks : Bool → Fork → Bool
+lacks first fork = if first then not fork.at_first else fork.at_first
 
--- the slot's number is so many less, and then so many more
-abbrev pub changed : ℕ → ℕ → ℕ → List ℕ → List ℕ
-changed less more slot numbers = slice_set numbers slot (count_at numbers slot - less + more)
+-- it has the fork, and its request token: the other end has asked for it
+abbrev pub is_asked : Bool → Fork → Bool
+is_asked first fork = if first then fork.at_first && fork.token_first else not fork.at_first && not fork.token_first
 
--- it is so many more
-abbrev pub with_more : ℕ → ℕ → List ℕ → List ℕ
-with_more count slot numbers = changed 0 count slot numbers
+-- the count with a fork more, of which the slot is the first end or the second
+abbrev pub count_with : Bool → Fork → Count → Count
+count_with first fork c = record { lacked = c.lacked + one_if (lacks first fork); asked = c.asked + one_if (is_asked first fork) }
 
--- it is so many less
-abbrev pub with_less : ℕ → ℕ → List ℕ → List ℕ
-with_less count slot numbers = changed count 0 slot numbers
+-- the count with that fork less
+abbrev pub count_without : Bool → Fork → Count → Count
+count_without first fork c = record { lacked = c.lacked - one_if (lacks first fork); asked = c.asked - one_if (is_asked first fork) }
 
--- ---- a record comes, goes, or has its fork pass to the other end
+-- the count with another fork in place of that one
+abbrev pub recounted : Bool → Fork → Fork → Count → Count
+recounted first had fork c = count_with first fork (count_without first had c)
 
--- the record can come: its ends have numbers, and those aren't too large
-pub record CanAdd (r : ForkRecord) (counts : List Count) : Type 0 where
-  pub slot : holder r < length counts
-  pub other : non_holder r < length counts
-  pub few : count_at (lackeds counts) (non_holder r) ≤ 65536
-  pub few_asked : count_at (askeds counts) (holder r) ≤ 65536
+-- the counts of a slot, which is the first end of a record or the second, and of its other end, with another fork in place of
+-- that one
+abbrev pub both_recounted : Bool → ℕ → ℕ → Fork → Fork → List Count → List Count
+both_recounted first slot other had fork counts =
+    slice_set (slice_set counts slot (recounted first had fork (count_at counts slot))) other
+    (recounted (not first) had fork (count_at counts other))
 
--- it has come: an end lacks a fork more, and the other may be asked for it
-pub record HasAdded (r : ForkRecord) (old new : List Count) : Type 0 where
-  pub lacked : lackeds new ≡ with_more 1 (non_holder r) (lackeds old)
-  pub asked : askeds new ≡ with_more (requests_at r.fork) (holder r) (askeds old)
-
--- the record can go: its fork is counted at its ends
-pub record CanRemove (r : ForkRecord) (counts : List Count) : Type 0 where
-  pub slot : holder r < length counts
-  pub other : non_holder r < length counts
-  pub some : 1 ≤ count_at (lackeds counts) (non_holder r)
-  pub some_asked : requests_at r.fork ≤ count_at (askeds counts) (holder r)
-
--- it has gone: no end lacks its fork any more, and none is asked for it
-pub record HasRemoved (r : ForkRecord) (old new : List Count) : Type 0 where
-  pub lacked : lackeds new ≡ with_less 1 (non_holder r) (lackeds old)
-  pub asked : askeds new ≡ with_less (requests_at r.fork) (holder r) (askeds old)
-
--- a fork can pass from the giver, who is asked for it so many times, to the taker
-pub record CanPass (giver taker requests : ℕ) (counts : List Count) : Type 0 where
-  pub gives : giver < length counts
-  pub takes : taker < length counts
-  pub some : 1 ≤ count_at (lackeds counts) taker
-  pub few : count_at (with_less 1 taker (lackeds counts)) giver ≤ 65536
-  pub some_asked : requests ≤ count_at (askeds counts) giver
-
--- it has passed: the taker lacks a fork less and the giver one more, who is asked for it no more
-pub record HasPassed (giver taker requests : ℕ) (old new : List Count) : Type 0 where
-  pub lacked : lackeds new ≡ with_more 1 giver (with_less 1 taker (lackeds old))
-  pub asked : askeds new ≡ with_less requests giver (askeds old)
-
--- a slot can be asked for a fork as often as its token says now, in place of as often as it said before
-pub record CanAsk (slot before now : ℕ) (counts : List Count) : Type 0 where
+-- the fork is in the count of the slot, as that of the first end or the second, and the count isn't too large
+pub record IsCounted (first : Bool) (slot : ℕ) (had : Fork) (counts : List Count) : Type 0 where
   pub within : slot < length counts
-  pub some : before ≤ count_at (askeds counts) slot
-  pub few : count_at (askeds counts) slot + now ≤ 4294967295
+  pub lacked : one_if (lacks first had) ≤ (count_at counts slot).lacked
+  pub asked : one_if (is_asked first had) ≤ (count_at counts slot).asked
+  pub few : (count_at counts slot).lacked ≤ 65536
+  pub few_asked : (count_at counts slot).asked ≤ 65536
 
--- ---- the numbers of all slots
+-- it is in the counts of both ends, the slot and the other, which differ
+pub record CanCount (first : Bool) (slot other : ℕ) (had : Fork) (counts : List Count) : Type 0 where
+  pub here : IsCounted first slot had counts
+  pub there : IsCounted (not first) other had counts
+  pub apart : other ≢ slot
 
--- each slot's number is as the function says
-pub record CountsEachSlot (numbers : List ℕ) (slots : ℕ) (of_slot : ℕ → ℕ) : Type 0 where
-  pub places : length numbers ≡ slots
-  pub counts : (slot : ℕ) → slot < slots → count_at numbers slot ≡ of_slot slot
+-- ---- one record
 
--- each slot's number is how many records have it as the end that lacks the fork
-abbrev pub AreLacked : List ℕ → ℕ → List ForkRecord → Type 0
-AreLacked lacked slots records = CountsEachSlot lacked slots (λ slot. length (filter (is_non_holder slot) records))
+-- the count of the slot with a record more, if it is an end
+abbrev pub counted_more : ℕ → ForkRecord → Count → Count
+counted_more slot r c = if slot == r.first then count_with true r.fork c else if slot == r.second then count_with false r.fork c else c
 
--- each slot's number is how many records have it as a holder that is asked for the fork
-abbrev pub AreAsked : List ℕ → ℕ → List ForkRecord → Type 0
-AreAsked asked slots records = CountsEachSlot asked slots (λ slot. length (filter (is_asked_of slot) records))
+-- and with a record less
+abbrev pub counted_less : ℕ → ForkRecord → Count → Count
+counted_less slot r c = if slot == r.first then count_without true r.fork c else if slot == r.second then count_without false r.fork c else c
 
--- the numbers of forks that are lacked are so but for the taker, who has got so many forks since its number was written
-abbrev pub AreLackedBefore : ℕ → ℕ → List ℕ → ℕ → List ForkRecord → Type 0
-AreLackedBefore taker got lacked slots records =
-    CountsEachSlot lacked slots (λ slot. length (filter (is_non_holder slot) records) + (if slot == taker then got else 0))
+-- the ends of the record are two slots with counts
+pub record AreCountedEnds (r : ForkRecord) (counts : List Count) : Type 0 where
+  pub differ : r.first ≢ r.second
+  pub first : r.first < length counts
+  pub second : r.second < length counts
 
--- those of the holders that are asked are so but for the giver, who has sent so many forks since its number was written
-abbrev pub AreAskedBefore : ℕ → ℕ → List ℕ → ℕ → List ForkRecord → Type 0
-AreAskedBefore giver sent asked slots records =
-    CountsEachSlot asked slots (λ slot. length (filter (is_asked_of slot) records) + (if slot == giver then sent else 0))
+-- the record can come: its ends have counts that aren't too large
+pub record CanAdd (r : ForkRecord) (counts : List Count) : Type 0 where
+  pub ends : AreCountedEnds r counts
+  pub few : (slot : ℕ) → slot < length counts → ((count_at counts slot).lacked ≤ 65536) × ((count_at counts slot).asked ≤ 65536)
 
--- ---- who lacks a fork
+-- it can go: its fork is counted at its ends
+pub record CanRemove (r : ForkRecord) (counts : List Count) : Type 0 where
+  pub ends : AreCountedEnds r counts
+  pub first : (one_if (lacks true r.fork) ≤ (count_at counts r.first).lacked) × (one_if (is_asked true r.fork) ≤ (count_at counts r.first).asked)
+  pub second : (one_if (lacks false r.fork) ≤ (count_at counts r.second).lacked) × (one_if (is_asked false r.fork) ≤ (count_at counts r.second).asked)
 
--- each slot of the set lacks the fork of one of its records. Who is no member may lack one too
-pub record AreLacking (book : ForkBook) (lacking : List Bool) : Type 0 where
-  pub places : length lacking ≡ book.slots
-  pub lack : (slot : ℕ) → slice_index_or lacking slot false ≡ true → list_all (holds slot) (slot_list slot book.records) ≡ false
+-- ---- all records
 
--- the set, and the slot is taken out where it lacks no fork
-abbrev pub relieved : ℕ → List ℕ → List Bool → List Bool
-relieved slot lacked lacking = if count_at lacked slot == 0 then slice_set lacking slot false else lacking
+-- how many records have the slot as the end that lacks the fork, and how many as a holder that is asked for it
+abbrev pub count_in : List ForkRecord → ℕ → Count
+count_in records slot = record { lacked = length (filter (is_non_holder slot) records); asked = length (filter (is_asked_of slot) records) }
+
+-- the slot is in the set
+abbrev pub is_member : List Bool → ℕ → Bool
+is_member lacking slot = slice_index_or lacking slot false
+
+-- the counts are those of the records, each slot has its mark or lacks it, and each member of the set lacks a fork. Who is no
+-- member may lack one too
+pub record IsTied (book : ForkBook) (counts : List Count) (marks lacking : List Bool) : Type 0 where
+  pub places : length counts ≡ book.slots
+  pub counted : (slot : ℕ) → slot < book.slots → count_at counts slot ≡ count_in book.records slot
+  pub marked : length marks ≡ book.slots
+  pub listed : length lacking ≡ book.slots
+  pub lack : (slot : ℕ) → is_member lacking slot ≡ true → 1 ≤ (count_at counts slot).lacked
+
+-- ---- the set
+
+-- the set after a walk of the slot, which lacks a fork then: who has walked the forks that it lacks has asked for them, and is
+-- put in
+abbrev pub asker_set : ℕ → Reach → List Bool → List Bool
+asker_set slot reach.Lacked lacking = slice_set lacking slot true
+asker_set slot reach.Asked lacking = lacking
+asker_set slot reach.All lacking = lacking
+
+-- the set after a walk of the slot, which lacks so many forks then: it is out of it where it lacks none
+abbrev pub kept_set : ℕ → ℕ → Reach → List Bool → List Bool
+kept_set slot lacked reach lacking =
+    if lacked == 0 then slice_set lacking slot false else asker_set slot reach lacking
+
+-- the set, and the slot is taken out that has gained a fork and lacks none
+abbrev pub relieved : ℕ → Bool → ℕ → List Bool → List Bool
+relieved slot gained lacked lacking = if gained then (if lacked == 0 then slice_set lacking slot false else lacking) else lacking

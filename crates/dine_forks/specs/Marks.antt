@@ -1,7 +1,7 @@
 -- Marks of slots: each fork that a marked slot has is dirty, whatever is kept of it.
 use Rattle.std.specs.Prelude.{◌≡◌, ℕ, Bool, false, if◌then◌else◌, List, length, map, slice_index_or}
 use Rattle.dine_forks.specs.Book.{Fork, ForkRecord, ForkBook, changed_where, dirtied, is_end}
-use Rattle.dine_forks.specs.Counts.{AreAsked, AreLacked, Count, askeds, lackeds}
+use Rattle.dine_forks.specs.Counts.{count_in}
 use Rattle.dine_forks.specs.Held.{holder, is_holder}
 
 -- the slot is marked
@@ -22,14 +22,6 @@ seen_book marks book = record book { records = map (seen_record marks) book.reco
 abbrev pub dirtied_record : ForkRecord → ForkRecord
 dirtied_record r = record { id = r.id; first = r.first; second = r.second; fork = dirtied r.fork }
 
--- ---- marks beside numbers
-
--- the numbers of forks are those of the records, and each slot has its mark or lacks it
-pub record IsTied (book : ForkBook) (counts : List Count) (marks : List Bool) : Type 0 where
-  pub counted : AreLacked (lackeds counts) book.slots book.records
-  pub asked : AreAsked (askeds counts) book.slots book.records
-  pub marked : length marks ≡ book.slots
-
 -- ---- a mark is taken off
 
 -- the fork of a record, dirty if the slot has it
@@ -39,3 +31,10 @@ own_dirtied_fork slot r = if is_holder slot r then dirtied r.fork else r.fork
 -- the record, its fork dirty if the slot has it
 abbrev pub own_dirtied_at : ℕ → ForkRecord → ForkRecord
 own_dirtied_at slot r = changed_where (is_end slot) (own_dirtied_fork slot) r
+
+-- one book is seen as another, and its slots lack as many forks and are asked for as many
+pub record IsSeenAlike (old : ForkBook) (old_marks : List Bool) (new : ForkBook) (marks : List Bool) : Type 0 where
+  pub slots : new.slots ≡ old.slots
+  pub marked : length marks ≡ length old_marks
+  pub same : seen_book marks new ≡ seen_book old_marks old
+  pub counted : (slot : ℕ) → count_in new.records slot ≡ count_in old.records slot

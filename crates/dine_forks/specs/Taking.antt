@@ -1,8 +1,7 @@
 -- A record that is taken into use: the last vacant one, or the first of those that were never given.
 use Rattle.std.specs.Prelude.{◌≡◌, ℕ, nat_lt, Bool, ◌&&◌, if◌then◌else◌, is_none, List, [], ◌∷◌, ◌++◌, length, Option, None, IfSome}
 use Rattle.dine_forks.specs.Book.{ForkId}
-use Rattle.dine_forks.specs.Lists.{ListEnds, Node, cut_list, cut_nodes_in, empty_list, hung_list, node_at}
-use Rattle.dine_forks.specs.Blocks.{blank_node}
+use Rattle.dine_forks.specs.Lists.{ListEnds, Node, blank_node, cut_list, cut_nodes_in, empty_list, hung_list, node_at}
 pub use Rattle.dine_forks.specs.Nodes.{Records}
 
 -- no record is vacant, but one was never given
@@ -17,10 +16,6 @@ provided_nodes room nodes vacant = if wants_record room nodes vacant then nodes 
 abbrev pub provided_list : ℕ → List Node → ListEnds → ListEnds
 provided_list room nodes vacant =
     if wants_record room nodes vacant then hung_list record { number = length nodes } empty_list else vacant
-
--- the records once the first of those that were never given is given
-abbrev pub with_given : Records → Records
-with_given r = record { room = r.room; nodes = r.nodes ++ blank_node (length r.nodes) ∷ [] }
 
 -- the last vacant record was taken out of its list, in which the first that was never given stood where no other was vacant
 pub record HasTaken (r : Records) (vacant : ListEnds) (taken : Option ForkId) (r' : Records) (vacant' : ListEnds) : Type 0 where

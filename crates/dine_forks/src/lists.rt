@@ -1,24 +1,22 @@
 //! The lists: fork records in order of declaration, each in the lists of its two ends, its fork as it was written last.
 //!
-//! They know no holder and no use. All records, the vacant ones too, lie in one raw block that is taken when the lists
-//! are made and given back when they are dropped; the vacant ones hang in a list of their own. Ids that were never given come
-//! from a counter, once no record is vacant.
+//! They know no mark and no count. Of a fork they know only whether a walk reaches it (`is_reached`). All records lie in one raw block, and the vacant ones hang in a list of their own. Ids that
+//! were never given come from a counter, once no record is vacant.
 
 ghost use Rattle.std.specs.Prelude.{◌≡◌, ◌≢◌, ◌==◌, ◌<◌, ◌≤◌, false, if◌then◌else◌, length, None, Some, IfOk, IfSome, IsTrue};
-ghost use Rattle.dine_forks.specs.Book.{CanBeLinked, FitsBook, HasLinked, IsBook, IsVisit, behind, book_with_fork, empty_book, first_id, id_between, is_in_use};
-ghost use Rattle.dine_forks.specs.Book.{other_end, reached, record_of, slot_list, with_token, without};
-ghost use Rattle.dine_forks.specs.Lists.{CanHang, cut_list, cut_lists, cut_nodes, hung_list, hung_lists, hung_nodes};
-ghost use Rattle.dine_forks.specs.Lists.{links_at, list_at, node_at};
+ghost use Rattle.dine_forks.specs.Book.{CanBeLinked, FitsBook, HasLinked, IsBook, IsVisit, behind, book_with_fork, empty_book, first_id, id_between, is_in_use, other_end, reached, record_of, slot_list, without};
+ghost use Rattle.dine_forks.specs.Walking.{is_reached};
+ghost use Rattle.dine_forks.specs.Lists.{CanHang, cut_list, cut_lists, hung_list, hung_lists, hung_nodes_in, cut_nodes_in, links_at, list_at, node_at};
 
 mod block;
 mod cells;
-mod records;
 mod search;
 mod signatures;
 
 use crate::record::{Fork, ForkId, ForkRecord, Link, Onward, Visit};
-use records::Records;
-use signatures::{is_noted, note, signature};
+use crate::rules::Reach;
+use block::Records;
+use signatures::{is_noted, note};
 use std::alloc::{AllocError, Global};
 use std::marker::Model;
 
@@ -84,26 +82,10 @@ impl ListEnds {
             degree: self.degree - 1,
         }
     }
-
-    /// The ends once the last record is cut out, which followed this one: what follows it isn't asked.
-    #[inline(always)]
-    pub fn without_last(self, previous: Link) -> ListEnds
-        requires { 1 ≤ self.degree }
-        ensures { result ≡ cut_list record { previous = previous; next = None } self }
-    {
-        ListEnds {
-            first: if previous.is_none() {
-                Link::NONE
-            } else {
-                self.first
-            },
-            last: previous,
-            degree: self.degree - 1,
-        }
-    }
 }
 
 /// Fork records between slots, in order of declaration and walked by slot, as they are written.
+#[derive(Drop)]
 pub struct Lists {
     // All records.
     records: Records,
@@ -137,24 +119,10 @@ impl Model for Lists {
         (ids_of b.records.nodes b.all)) };
 }
 
-// By hand, so that who drops lists has one step to prove and not one for each of their parts.
-impl Drop for Lists {
-    fn drop(self) {
-        let Lists {
-            records: _,
-            all: _,
-            vacant: _,
-            by_slot: _,
-            signatures: _,
-        } = self;
-    }
-}
-
 impl Lists {
     /// Empty lists over so many slots, with room for so many records: both 1 to 65,536.
     ///
-    /// All memory is taken here, and none of it is written for a record before the record is first given. An error is want
-    /// of memory.
+    /// All memory is taken here, and none of it is written for a record before that is first given. An error is want of memory.
     pub fn new(alloc: Global, slots: u32, room: u32) -> Result<Lists, AllocError>
         requires { FitsBook slots room }
         ensures { IfOk result (λ book. book ≡ empty_book slots room) }
@@ -209,16 +177,15 @@ impl Lists {
 
     /// Adds a record of two slots behind all others, under an id that no record has.
     ///
-    /// The slots differ, and no record joins them yet. The answer is `None` exactly where the room
-    /// is full, and then nothing changes.
+    /// The slots differ, and no record joins them yet. The answer is `None` where the room is full, and then nothing changes.
     pub fn link(&mut self, a: u32, b: u32, fork: Fork) -> Option<ForkId>
         requires { CanBeLinked a b self.old }
         ensures { HasLinked a b fork self.old result self.new }
     {
         // They are read in front of other writes: right behind a read, a choice of what was read becomes a jump, and which slots
         // have no record follows no rule that a processor could guess.
-        let first = signature(&self.signatures, a);
-        let second = signature(&self.signatures, b);
+        let first = self.signatures[a as usize];
+        let second = self.signatures[b as usize];
         let id = self.records.take(&mut self.vacant)?;
         let degree = self.by_slot[a as usize].degree;
         note(&mut self.signatures, a, first, b, degree);
@@ -256,7 +223,18 @@ impl Lists {
         ensures found { record_of id self.now.records ≡ Some result }
         ensures sound { IsBook self.now }
     {
-        self.records.read(id)
+        self.records.record(id)
+    }
+
+    /// Whether a walk has to do with a record. `first` says whether its slot is the first end.
+    #[inline(always)]
+    #[tactic(auto, using(crate::proofs::Named::place_of_used, crate::proofs::Named::record_of_named))]
+    pub fn is_reached(&self, reach: Reach, id: ForkId, first: bool) -> bool
+        requires { IsTrue (is_in_use id self.now.records) }
+        ensures { IfSome (record_of id self.now.records)
+            (λ r. result ≡ is_reached reach first r.fork) }
+    {
+        self.records.is_reached(reach, id, first)
     }
 
     /// Puts a fork in place of a record's own. Everything else stays.
@@ -269,20 +247,9 @@ impl Lists {
         self.records.write_fork(id, fork);
     }
 
-    /// Puts the request token of a record at its first end or at its second. Everything else stays.
+    /// The first record of a slot's list, which has the records with the slot as an end, in order of declaration.
     #[inline(always)]
-    #[tactic(auto, using(crate::proofs::Named::place_of_used))]
-    pub fn write_token(&mut self, id: ForkId, at_first: bool)
-        requires { IsTrue (is_in_use id self.old.records) }
-        ensures { IfSome (record_of id self.old.records) (λ r.
-            self.new ≡ book_with_fork id (with_token at_first r.fork) self.old) }
-    {
-        self.records.write_token(id, at_first);
-    }
-
-    /// The first record of a slot's list, which has the records with the slot as an end, in order
-    /// of declaration. A walk from there goes to each record once, since no two have one id.
-    #[inline(always)]
+    #[tactic(auto, using(crate::proofs::Listing::first_of_ids))]
     pub fn first_of(&self, slot: u32) -> Option<ForkId>
         requires { slot < self.now.slots }
         ensures first { result ≡ first_id (slot_list slot self.now.records) }
@@ -298,35 +265,30 @@ impl Lists {
         requires { IsTrue (is_in_use id (slot_list slot self.now.records)) }
         ensures { reached self.now result ≡ first_id (behind id (slot_list slot self.now.records)) }
     {
-        self.records.onward(slot, id)
+        self.records.read(Some(slot), id).1
     }
 
-    /// The record that a list goes on with, if it does. No record is looked at.
+    /// The record that follows in a slot's list.
     #[inline(always)]
-    pub fn reached(&self, onward: Onward) -> Option<ForkId>
-        ensures { result ≡ reached self.now onward }
+    pub fn next_of(&self, slot: u32, id: ForkId) -> Option<ForkId>
+        requires { IsTrue (is_in_use id (slot_list slot self.now.records)) }
+        ensures { result ≡ first_id (behind id (slot_list slot self.now.records)) }
     {
-        self.records.reached(onward)
+        self.records.reached(self.onward(slot, id))
     }
 
-    /// The record that a walk goes on with that has so many records of a list still to write: none where it has none. Where
-    /// it has some there is one, and that isn't asked.
+    /// The record that a walk goes on with that has so many records of a list still to write. Where it has some there is one.
     #[inline(always)]
     pub fn goes_on(&self, left: u32, onward: Onward) -> Option<ForkId>
         requires { 1 ≤ left → onward.number < self.now.room }
         ensures { result ≡ (if left == 0 then None else reached self.now onward) }
     {
-        if left == 0 {
-            None
-        } else {
-            Some(ForkId {
-                number: onward.number,
-            })
-        }
+        (left != 0).then_some(ForkId {
+            number: onward.number,
+        })
     }
 
-    /// A record of a slot's list, its other end, and the record that follows: all that a step of a
-    /// walk reads, in one look.
+    /// A record of a slot's list, its other end, and the record that follows: all that a step of a walk reads.
     #[inline(always)]
     #[tactic(auto, using(crate::proofs::CallerLemmas::in_use_of_slot, crate::proofs::Linking::ends_of_listed, crate::proofs::Linking::ends_of_used, crate::proofs::Linking::other_end_of_used))]
     pub fn visit(&self, slot: u32, id: ForkId) -> Visit
@@ -341,7 +303,7 @@ impl Lists {
         Visit {
             record,
             other: record.other_end(slot),
-            next: self.reached(self.onward(slot, id)),
+            next: self.next_of(slot, id),
         }
     }
 
@@ -363,7 +325,7 @@ fn hang(by_slot: &mut Vec<ListEnds>, records: &mut Records, slot: u32, id: ForkI
     ensures lists { by_slot.new.items ≡ hung_lists slot id by_slot.old.items }
     ensures records { records.new ≡ record records.old {
       nodes =
-          hung_nodes slot id (list_at by_slot.old.items slot).last records.old.nodes;
+          hung_nodes_in (Some slot) id (list_at by_slot.old.items slot).last records.old.nodes;
     } }
 {
     // The ends are written before the record is hung, so that they are read once: whatever is written there might be theirs.
@@ -382,7 +344,7 @@ fn cut(by_slot: &mut Vec<ListEnds>, records: &mut Records, slot: u32, id: ForkId
         cut_lists slot (links_at slot (node_at records.old.nodes id)) by_slot.old.items }
     ensures records { records.new ≡ record records.old {
       nodes =
-          cut_nodes slot (links_at slot (node_at records.old.nodes id)) records.old.nodes;
+          cut_nodes_in (Some slot) (links_at slot (node_at records.old.nodes id)) records.old.nodes;
     } }
 {
     // As in `hang`. All of the ends are read, so that those which stay are picked, and nothing is decided.

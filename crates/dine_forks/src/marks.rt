@@ -1,45 +1,46 @@
 //! The marks: a slot that has eaten is marked, and each fork that it holds is seen dirty.
 //!
-//! So neither a begin nor a finish writes dirt. It is written where a mark has to go, since the slot is to get a clean fork.
+//! So a begin writes no dirt, and a finish none of its own slot. It is written when a mark ends: before a clean fork comes, or
+//! before a walk for forks that the slot lacks.
 
-ghost use Rattle.std.specs.Prelude.{◌≡◌, ◌<◌, Bool, false, filter, length, map};
-ghost use Rattle.dine_forks.specs.Marks.{dirtied_record, is_marked, own_dirtied_at, seen_book};
+ghost use Rattle.std.specs.Prelude.{◌≡◌, ℕ, ◌<◌, false, length, map};
+ghost use Rattle.dine_forks.specs.Counts.{count_in};
+ghost use Rattle.dine_forks.specs.Marks.{IsSeenAlike, is_marked, own_dirtied_at};
 
 use crate::lists::Lists;
-use crate::record::{Fork, ForkRecord};
+use crate::record::Fork;
 
-/// Takes a slot's mark off, if it has one: the forks that it holds are written dirty. What is seen of the book stays, and
-/// what doesn't look at the dirt counts as many records.
+/// Makes a slot ready to hold a fork, dirty or clean. The slot lacks so many. A clean fork ends its mark, and the forks that it
+/// holds are written dirty. What is seen of the book stays.
 #[inline(always)]
-#[tactic(auto, using(crate::proofs::Marking::unmark_seen, crate::proofs::Marking::marked_off))]
-pub fn unmark(lists: &mut Lists, marks: &mut [bool], slot: u32)
+pub fn make_ready(lists: &mut Lists, marks: &mut [bool], dirty: bool, slot: u32, lacked: u32)
     requires slot { slot < lists.old.slots }
     requires marked { length marks.old ≡ lists.old.slots }
-    ensures same { seen_book marks.new lists.new ≡ seen_book marks.old lists.old }
-    ensures marked { length marks.new ≡ lists.new.slots }
-    ensures places { length marks.new ≡ length marks.old }
-    ensures slots { lists.new.slots ≡ lists.old.slots }
-    ensures told { (test : ForkRecord → Bool) →
-        ((r : ForkRecord) → test (dirtied_record r) ≡ test r) →
-        length (filter test lists.new.records) ≡ length (filter test lists.old.records) }
-    ensures unmarked { is_marked marks.new slot ≡ false }
+    requires lacked { lacked ≡ (count_in lists.old.records slot).lacked }
+    ensures same { IsSeenAlike lists.old marks.old lists.new marks.new }
+    ensures ready { dirty ≡ false → is_marked marks.new slot ≡ false }
+    ensures off { (s : ℕ) → is_marked marks.old s ≡ false → is_marked marks.new s ≡ false }
 {
-    if marks[slot as usize] {
+    lists.are_sound();
+    if !dirty && marks[slot as usize] {
         marks[slot as usize] = false;
-        dirty_around(lists, slot);
+        // One that lacks as many as it has records holds none.
+        if lacked < lists.degree(slot) {
+            write_dirt(lists, slot);
+        }
     }
 }
 
-// Writes the forks dirty that a slot holds. It is built once: a caller that it is built into saves registers for it. Few
-// marks are taken off so, and a walk that gives up keeps its registers for the steps without one.
+// Writes the forks dirty that a slot holds. It is built once: a caller that it is built into saves registers for it.
 #[cold]
 #[inline(never)]
-fn dirty_around(lists: &mut Lists, slot: u32)
+fn write_dirt(lists: &mut Lists, slot: u32)
     requires { slot < lists.old.slots }
     ensures { lists.new ≡ record lists.old {
       records = map (own_dirtied_at slot) lists.old.records;
     } }
 {
+    lists.are_sound();
     let mut next = lists.first_of(slot);
     while let Some(id) = next {
         let visit = lists.visit(slot, id);

@@ -1,7 +1,6 @@
 //! Sets of slots, kept as bits, so that the least member from a slot on is found in a few steps.
 
-ghost use Rattle.std.specs.Prelude.{◌≡◌, ◌+◌, ◌*◌, ◌/◌, ◌<◌, ◌≤◌, ◌^◌, IfOk};
-ghost use Rattle.std.specs.Prelude.{false, length, replicate, slice_index_or, slice_set, true};
+ghost use Rattle.std.specs.Prelude.{◌≡◌, ◌+◌, ◌*◌, ◌/◌, ◌<◌, ◌≤◌, ◌^◌, IfOk, false, length, replicate, slice_index_or, slice_set, true};
 ghost use Rattle.std.specs.Int.{bit_at};
 ghost use Rattle.dine_forks.specs.SlotSets.{AreMembers, AreWords, IsFirstSet, bit_in, first_member};
 
@@ -31,6 +30,7 @@ impl Model for SlotSet {
 
 impl SlotSet {
     /// A set of none of so many slots.
+    #[tactic(auto, using(crate::proofs::SlotBits::members_none))]
     pub fn new(alloc: Global, slots: u32) -> Result<SlotSet, AllocError>
         ensures { IfOk result (λ set. set ≡ replicate slots false) }
     {
@@ -55,17 +55,22 @@ impl SlotSet {
 
     /// Puts a slot in.
     #[inline]
+    #[tactic(auto, using(crate::proofs::SlotBits::insert_members, crate::proofs::SlotBits::insert_kept))]
     pub fn insert(&mut self, slot: u32)
         requires { slot < length self.old }
         ensures { self.new ≡ slice_set self.old slot true }
     {
         let word = slot as usize / 64;
-        self.words[word] |= 1 << (slot % 64);
-        self.marks[word / 64] |= 1 << (word % 64);
+        let before = self.words[word];
+        self.words[word] = before | 1 << (slot % 64);
+        if before == 0 {
+            self.marks[word / 64] |= 1 << (word % 64);
+        }
     }
 
     /// Takes a slot out.
     #[inline]
+    #[tactic(auto, using(crate::proofs::SlotBits::remove_kept, crate::proofs::SlotBits::remove_members))]
     pub fn remove(&mut self, slot: u32)
         requires { slot < length self.old }
         ensures { self.new ≡ slice_set self.old slot false }
@@ -110,6 +115,7 @@ impl SlotSet {
 
     /// The members among the slots from 64 times a number on, as bits: bit k for the slot k behind the first of them.
     #[inline(always)]
+    #[tactic(auto, using(crate::proofs::SlotBits::word_told))]
     pub fn word(&self, word: usize) -> u64
         requires { 64 * word < length self.now }
         ensures { AreMembers self.now word result }
@@ -120,6 +126,7 @@ impl SlotSet {
     /// The words that may have a member, as bits: bit k for the word k, which has the slots from 64 k on. A word whose bit
     /// is 0 has none. One number has the bits of all words, since there are no more than 4,096 slots.
     #[inline(always)]
+    #[tactic(auto, using(crate::proofs::SlotBits::has_marks, crate::proofs::SlotBits::words_told))]
     pub fn word_marks(&self) -> u64
         requires some { 1 ≤ length self.now }
         requires few { length self.now ≤ 4096 }
@@ -130,6 +137,7 @@ impl SlotSet {
 }
 
 // The first bit of a word that is set, from a bit on, or 64 where none is.
+#[tactic(auto, using(crate::proofs::SlotBits::first_bit_is))]
 fn first_bit(word: u64, from: u32) -> u32
     requires { from < 64 }
     ensures { IsFirstSet (bit_at word) from 64 result }

@@ -4,6 +4,7 @@ ghost use Rattle.std.specs.Prelude.{◌≡◌, ◌≢◌, ◌<◌, ◌≤◌, �
 ghost use Rattle.dine_table.specs.Calls.{reply_of};
 ghost use Rattle.dine_table.specs.History.{IsLegal};
 ghost use Rattle.dine_table.specs.Table.{is_ready, neighbours_if_present, next_ready_of, state_of};
+ghost use Rattle.dine_table.specs.Waiting.{blockers_if_present, ready_of};
 ghost use Rattle.dine_journal.specs.Costs.{last_cost};
 ghost use Rattle.dine_journal.specs.Kept.{table_now};
 
@@ -183,6 +184,24 @@ impl Hall {
             ≡ neighbours_if_present (table_now self.now) task) }
     {
         self.arbiter.neighbours(alloc, task)
+    }
+
+    /// The tasks for which a hungry task waits: its neighbours that eat, and those that are hungry with an earlier last
+    /// meal, in the order in which the conflicts were declared. There are none for a task that isn't hungry, or that may
+    /// begin. `None` where the task isn't present. An error is want of memory for the list.
+    pub fn blockers(&self, alloc: Global, task: Task) -> Result<Option<Vec<Task>>, AllocError>
+        ensures { IfOk result (λ found.
+            option_map (λ tasks. tasks.items) found
+            ≡ blockers_if_present (table_now self.now) task) }
+    {
+        self.arbiter.blockers(alloc, task)
+    }
+
+    /// All tasks that are ready, the one with the earliest last meal first. An error is want of memory for the list.
+    pub fn ready(&self, alloc: Global) -> Result<Vec<Task>, AllocError>
+        ensures { IfOk result (λ tasks. tasks.items ≡ ready_of (table_now self.now)) }
+    {
+        self.arbiter.ready(alloc)
     }
 
     /// The limits of the table.

@@ -4,6 +4,7 @@ mod order;
 
 ghost use Rattle.std.specs.Prelude.{◌≡◌, ◌<◌, ◌^◌, ◌-◌, false, IfOk, OnOk, OnErr, option_map};
 ghost use Rattle.dine_table.specs.Table.{is_ready, neighbours_if_present, next_ready_of, opening_table, state_of};
+ghost use Rattle.dine_table.specs.Waiting.{blockers_if_present, ready_of};
 ghost use Rattle.dine_table.specs.Calls.{acceptance_of, changed_by, is_absent, is_full, newcomer, refusal_of, refusal_unless, reply_of, table_after_call};
 
 use dine_table::refusal_unless;
@@ -100,6 +101,36 @@ impl PlainTable {
             return Ok(None);
         }
         Ok(Some(order::neighbours_in(alloc, &self.conflicts, task)?))
+    }
+
+    /// The tasks for which a hungry task waits: its neighbours that eat, and those that are hungry and ate less recently, in
+    /// the order in which the conflicts were declared. There are none for a task that isn't hungry. `None` where the task
+    /// isn't present. An error is want of memory for the list.
+    pub fn blockers(&self, alloc: Global, task: Task) -> Result<Option<Vec<Task>>, AllocError>
+        ensures { IfOk result (λ found.
+            option_map (λ tasks. tasks.items) found ≡ blockers_if_present self.now task) }
+    {
+        match self.state(task) {
+            Some(State::Hungry) => Ok(Some(order::blockers_in(
+                alloc,
+                &self.order,
+                &self.conflicts,
+                task,
+            )?)),
+            Some(_) => Ok(Some(Vec::new(alloc))),
+            None => Ok(None),
+        }
+    }
+
+    /// All tasks that are ready, the one with the earliest last meal first. An error is want of memory for the list.
+    pub fn ready(&self, alloc: Global) -> Result<Vec<Task>, AllocError>
+        ensures { IfOk result (λ tasks. tasks.items ≡ ready_of self.now) }
+    {
+        self.order
+            .iter()
+            .filter(|diner| self.is_ready(diner.task))
+            .map(|diner| diner.task)
+            .collect(alloc)
     }
 
     /// The reply that [`PlainTable::apply`] would give. Nothing changes.

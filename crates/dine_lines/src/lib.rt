@@ -30,7 +30,7 @@ pub use line_words::{
 pub use name::Name;
 pub use names::Names;
 pub use print::Print;
-pub use question_answer::{push_neighbours, push_next, push_state};
+pub use question_answer::{push_neighbours, push_next, push_state, push_tasks};
 pub use seed::Seed;
 pub use short_line::{ShortWord, after_blanks, after_filled_line, short_word, spaced_word};
 pub use usual::{

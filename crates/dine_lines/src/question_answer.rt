@@ -51,8 +51,8 @@ pub fn push_neighbours(out: &mut Vec<u8>, tasks: Option<Vec<Task>>) -> Result<()
     }
 }
 
-// A space and its name for each task.
-fn push_tasks(out: &mut Vec<u8>, tasks: &[Task]) -> Result<(), AllocError>
+/// A space and its name for each task. On `Err` a part may have been appended, behind what stood there before.
+pub fn push_tasks(out: &mut Vec<u8>, tasks: &[Task]) -> Result<(), AllocError>
     ensures ok { OnOk result (out.new.items
         ≡ out.old.items ++ flat_map (λ t. codes " " ++ task_text t) tasks.now) }
     ensures err { OnErr result (IsPrefix out.old.items out.new.items) }

@@ -1,18 +1,7 @@
 -- A request that was carried out comes again with the answer that it got.
-use Rattle.std.proofs.Common.{◌≡◌, ℕ, ◌<◌, nat_lt, eqb, true, false, List, [], ◌++◌, codes, length, map, take, slice_get, Some, None, inl, inr, refl, ap, ◌∙◌, subst, arith}
-use Rattle.std.proofs.lemmas.Bool.{cases_Bool}
-use Rattle.std.proofs.lemmas.Bool.Decides.{nat_tests}
-use Rattle.dine_serve.specs.declared.receipts.RequestAnswer.{RequestAnswer}
-use Rattle.dine_serve.specs.declared.receipts.RequestAnswer.TheVariants.{Made, Cancelled, Waits}
-use Rattle.dine_serve.specs.declared.receipts.Coming.TheVariants.{First, Again}
-use Rattle.dine_serve.specs.declared.request.Deed.{Deed}
-use Rattle.dine_serve.specs.declared.request.Deed.TheVariants.{Make, Await as await, Cancel}
+use Rattle.dine_serve.proofs.Words.{◌≡◌, ℕ, ◌<◌, nat_lt, eqb, true, false, List, [], ◌++◌, codes, length, map, take, slice_get, Some, None, inl, inr, refl, ap, ◌∙◌, subst, arith, cases_Bool, nat_tests, RequestAnswer, Made, Cancelled, Waits, First, Again, Deed, Make, Cancel, has_to_wait, again_lines, entry_in, coming_at, coming_of, Broker, after_coming, after_deed, answer_done, is_full, received, said_done, is_noted}
+use Rattle.dine_serve.specs.declared.request.Deed.TheVariants.{Await as await}
 use Rattle.dine_words.specs.declared.call.Call.TheVariants as call
-use Rattle.dine_table.specs.Calls.{has_to_wait}
-use Rattle.dine_serve.specs.Answers.{again_lines, entry_in}
-use Rattle.dine_serve.specs.Receipts.{coming_at, coming_of}
-use Rattle.dine_serve.specs.Serving.{Broker, after_coming, after_deed, answer_done, is_full, received, said_done}
-use Rattle.dine_serve.specs.Waits.{is_noted}
 use Rattle.dine_serve.proofs.Once.{first-some, put-got, same-done}
 
 -- no number is below itself
@@ -32,9 +21,9 @@ itself n = elim (cases_Bool (eqb n n)) [
 -- a request that was carried out comes again with its answer
 pub again-known : (s : Broker) (pass number : ℕ) (deed : Deed) (answer : RequestAnswer) → coming_of s.receipts pass number ≡ First → answer_done s pass deed ≡ Some answer → coming_of (after_coming s pass number deed First).receipts pass number ≡ Again answer
 again-known s pass number deed answer first is =
-    let left = after_deed s pass number deed in
+    let left = after_deed s pass (Some number) deed in
     let (x, at) = first-some (slice_get s.receipts pass) number first in
-    let got = put-got left.receipts pass record { number = number; answer = answer } x (same-done s pass number deed pass ∙ at) in
+    let got = put-got left.receipts pass record { number = number; answer = answer } x (same-done s pass (Some number) deed pass ∙ at) in
     ap (λ o. coming_of (received pass number o left).receipts pass number) is
     ∙ ap (λ o. coming_at o number) got
     ∙ rw (not_below number, itself number) refl

@@ -1,18 +1,5 @@
 -- What is said to lines that are heard in several pieces, and what of it is written.
-use Rattle.std.proofs.Common.{◌≡◌, ◌≢◌, ◌↔◌, IsTrue, ℕ, ◌+◌, ◌-◌, ◌^◌, ◌<◌, nat_le, min, Bool, true, false, ◌||◌, if◌then◌else◌, List, [], ◌∷◌, ◌++◌, length, take, is_ok, Option, Some, None, Err, IfSome, OnOk, Result, Ok, refl, sym, ap, ◌∙◌, subst, append_assoc, arith}
-use Rattle.std.proofs.Math.Seq.{take-append-add, take-append_seam}
-use Rattle.std.proofs.lemmas.List.{take-append-le, take_min}
-use Rattle.std.proofs.lemmas.Grind.{flat_map-append}
-use Rattle.std.proofs.lemmas.Bool.Decides.{nat_tests}
-use Rattle.std.proofs.KnownBytes.{Appends-trans}
-use mathlib.Core.List.{IsPrefix}
-use Rattle.std.specs.Io.KnownBytes.{Appends, Consumes}
-use Rattle.dine_streams.specs.Lines.{begun_line, kept_of, seen_lines}
-use Rattle.dine_streams.proofs.CallerLemmas.{seen-pieces}
-use Rattle.dine_serve.specs.Requests.{reading_of}
-use Rattle.dine_serve.specs.Serving.{HasRoom, Broker, has_no_room, after_reading, counted, is_torn, said_from, said_of_begun, said_to, said_to_input, standing_from}
-use Rattle.dine_streams.specs.Written.{AppendsLinesOf, AppendsPartOf}
-use Rattle.dine_words.specs.Texts.{text_of_lines}
+use Rattle.dine_serve.proofs.Words.{◌≡◌, ◌≢◌, ◌↔◌, IsTrue, ℕ, ◌+◌, ◌-◌, ◌^◌, ◌<◌, nat_le, min, Bool, true, false, ◌||◌, if◌then◌else◌, List, [], ◌∷◌, ◌++◌, length, take, is_ok, Option, Some, None, Err, IfSome, OnErr, OnOk, Result, Ok, refl, sym, ap, ◌∙◌, subst, append_assoc, arith, take-append-add, take-append_seam, take-append-le, take_min, flat_map-append, nat_tests, Appends-trans, IsPrefix, Appends, Consumes, begun_line, kept_of, seen_lines, seen-pieces, reading_of, HasRoom, Broker, has_no_room, after_reading, counted, is_torn, said_from, said_of_begun, said_to, said_to_input, standing_from, AppendsLinesOf, AppendsPartOf, text_of_lines}
 
 -- ---- the first of the lines
 
@@ -130,10 +117,7 @@ above m n h = grind (arith, nat_tests, h)
 pub has_room : (s : Broker) → has_no_room s ≡ false → HasRoom s
 has_room s h =
     let (lines, clock) = neither (nat_le (2 ^ 64 - 1) s.lines) (nat_le (2 ^ 64 - 2) s.table.clock) h in
-    record {
-      lines = above (2 ^ 64 - 1) s.lines lines;
-      clock = above (2 ^ 64 - 2) s.table.clock clock;
-    }
+    record { lines = above (2 ^ 64 - 1) s.lines lines; going = above (2 ^ 64 - 2) s.table.clock clock }
 
 -- ---- results
 
@@ -141,6 +125,11 @@ has_room s h =
 pub on_ok : {A E P Q : Type 0} (r : Result A E) → (P → Q) → OnOk r P → OnOk r Q
 on_ok (Ok x) more holds = more holds
 on_ok (Err fault) more holds = tt
+
+-- what holds, holds where there is an error
+pub of_error : {X E : Type 0} (P : Type 0) (r : Result X E) → P → OnErr r P
+of_error P (Ok x) holds = tt
+of_error P (Err e) holds = holds
 
 -- what begins with a text goes on beginning with it where more is appended
 pub begins_on : (old mid new text : List ℕ) → IsPrefix old mid → new ≡ mid ++ text → IsPrefix old new

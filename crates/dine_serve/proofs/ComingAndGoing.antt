@@ -1,17 +1,6 @@
 -- Whoever has to wait waits on where somebody joins or leaves, and where two tasks get a conflict.
-use Rattle.std.proofs.Common.{◌≡◌, ◌+◌, Bool, true, false, not, List, [], ◌∷◌, ◌++◌, Option, Some, None, is_none, inl, inr, refl, sym, ap, ◌∙◌}
-use Rattle.std.specs.List.{cons_option, filter, list_any}
-use Rattle.std.proofs.lemmas.Bool.{cases_Bool, or_left, or_right}
-use Rattle.std.proofs.lemmas.List.Elements.{filter_map-append}
-use Rattle.std.proofs.lemmas.List.Folds.{list_any-append}
+use Rattle.dine_serve.proofs.Words.{◌≡◌, ◌+◌, Bool, true, false, not, List, [], ◌∷◌, ◌++◌, Option, Some, None, is_none, inl, inr, refl, sym, ap, ◌∙◌, cons_option, filter, list_any, cases_Bool, or_left, or_right, filter_map-append, list_any-append, Diner, State, Thinking, Hungry, Eating, Task, Table, has_end, keeps_waiting, neighbours_in, neighbours_of, other_end, same_task, state_in, state_of, has_to_wait, newcomer, refusal_of, table_after_call, without, absent_differs, found, same_task-true, stands_before-append, stands_before-without, state_in-append_other, state_in-without_other}
 use Rattle.dine_words.specs.declared.call.Call.TheVariants as call
-use Rattle.dine_words.specs.declared.task.Diner.{Diner}
-use Rattle.dine_words.specs.declared.task.State.{State}
-use Rattle.dine_words.specs.declared.task.State.TheVariants.{Thinking, Hungry, Eating}
-use Rattle.dine_words.specs.declared.task.Task.{Task}
-use Rattle.dine_table.specs.Table.{Table, has_end, keeps_waiting, neighbours_in, neighbours_of, other_end, same_task, state_in, state_of}
-use Rattle.dine_table.specs.Calls.{has_to_wait, newcomer, refusal_of, table_after_call, without}
-use Rattle.dine_table.proofs.CallerLemmas.{absent_differs, found, same_task-true, stands_before-append, stands_before-without, state_in-append_other, state_in-without_other}
 use Rattle.dine_serve.proofs.Ordered.{newcomer-absent, not_hungry, states-differ, thinks}
 use Rattle.dine_serve.proofs.Waiting.{any-more, is_none-None, waits-if, waits-only}
 

@@ -1,15 +1,5 @@
 -- How far a stream was heard and answered.
-use Rattle.std.proofs.Common.{◌≡◌, ℕ, Bool, false, ◌||◌, List, [], ◌++◌, Option, IfSome, refl, sym, ap, ◌∙◌, subst, append-nil}
-use Rattle.std.proofs.lemmas.Grind.{flat_map-append}
-use Rattle.std.proofs.KnownBytes.{Appends-kept, Appends-nil, Appends-trans, Consumes-kept, Consumes-nil, Consumes-trans, Consumes-whole}
-use Rattle.std.specs.Io.KnownBytes.{Appends, Consumes, Keeps}
-use Rattle.dine_streams.specs.Heard.{LineBuffer, Hears}
-use Rattle.dine_streams.specs.Lines.{begun_line, seen_lines}
-use Rattle.dine_streams.proofs.CallerLemmas.{HasHeard, heard-next, heard-opening, seen-next}
-use Rattle.dine_serve.specs.Serving.{Broker, has_fault_of, is_torn, said_from, said_of_begun, said_to_input, standing_from}
-use Rattle.dine_streams.specs.Written.{AppendsLinesOf, AppendsPartOf}
-use Rattle.dine_serve.specs.Streams.{HasAnswered}
-use Rattle.dine_words.specs.Texts.{text_of_lines}
+use Rattle.dine_serve.proofs.Words.{◌≡◌, ℕ, Bool, false, ◌||◌, List, [], ◌++◌, Option, IfSome, refl, sym, ap, ◌∙◌, subst, append-nil, flat_map-append, Appends-kept, Appends-nil, Appends-trans, Consumes-kept, Consumes-nil, Consumes-trans, Consumes-whole, Appends, Consumes, Keeps, LineBuffer, Hears, begun_line, seen_lines, HasHeard, heard-next, heard-opening, seen-next, Broker, has_fault_of, is_torn, said_from, said_of_begun, said_to_input, standing_from, AppendsLinesOf, AppendsPartOf, HasAnswered, text_of_lines}
 use Rattle.dine_serve.proofs.Answering.{is_torn-kept, lines-all, lines-later, of_front, part-later, said_from-append, said_later, said_of_begun-kept, said_to_input-front, standing_from-append}
 
 -- of the input this text was heard, it is answered, and it left the broker and the buffer so

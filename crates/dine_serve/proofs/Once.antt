@@ -1,30 +1,7 @@
 -- No number of a pass is carried out twice: once it was, its pass's last request has a number that isn't below it.
-use Rattle.std.proofs.Common.{◌≡◌, ℕ, zero, suc, ◌<◌, ◌≤◌, nat_lt, eqb, Bool, true, false, ◌&&◌, List, [], ◌∷◌, slice_get, slice_set, Option, Some, None, is_some, Result, Ok, Err, inl, inr, refl, sym, ap, ◌∙◌, subst, arith}
-use Rattle.std.proofs.lemmas.Bool.{and_parts, cases_Bool, eqb-true}
-use Rattle.std.proofs.lemmas.Bool.Decides.{nat_tests}
-use Rattle.dine_table.proofs.CallerLemmas.{slice_get-set_other}
-use Rattle.dine_words.specs.declared.call.Call.{Call}
+use Rattle.dine_serve.proofs.Words.{◌≡◌, ℕ, zero, suc, ◌<◌, ◌≤◌, nat_lt, eqb, Bool, true, false, ◌&&◌, List, [], ◌∷◌, slice_get, slice_set, Option, Some, None, is_some, Result, Ok, Err, inl, inr, refl, sym, ap, ◌∙◌, subst, arith, and_parts, cases_Bool, eqb-true, nat_tests, slice_get-set_other, Call, Entry, has_to_wait, table_after_call, Table, Await, LineFault, RequestAnswer, Made, Coming, First, Again, Stale, Foreign, Receipt, Deed, Make, Cancel, Request, Ask, Order, Numbered, entry_in, coming_at, coming_of, has_number, settled, settled_by, is_carried_out, is_first, times_carried_out, reading_of, Broker, after_coming, after_deed, after_making, after_reading, answer_done, counted, retries_after, is_full, received, receipts_after, receipts_begun}
 use Rattle.dine_words.specs.declared.call.Call.TheVariants as call
-use Rattle.dine_words.specs.declared.entry.Entry.{Entry}
-use Rattle.dine_table.specs.Calls.{has_to_wait, table_after_call}
-use Rattle.dine_table.specs.Table.{Table}
-use Rattle.dine_serve.specs.declared.awaits.Await.{Await}
-use Rattle.dine_serve.specs.declared.request_fault.LineFault.{LineFault}
-use Rattle.dine_serve.specs.declared.receipts.RequestAnswer.{RequestAnswer}
-use Rattle.dine_serve.specs.declared.receipts.RequestAnswer.TheVariants.{Made}
-use Rattle.dine_serve.specs.declared.receipts.Coming.{Coming}
-use Rattle.dine_serve.specs.declared.receipts.Coming.TheVariants.{First, Again, Stale, Foreign}
-use Rattle.dine_serve.specs.declared.receipts.Receipt.{Receipt}
-use Rattle.dine_serve.specs.declared.request.Deed.{Deed}
-use Rattle.dine_serve.specs.declared.request.Deed.TheVariants.{Make, Await as await, Cancel}
-use Rattle.dine_serve.specs.declared.request.Request.{Request}
-use Rattle.dine_serve.specs.declared.request.Request.TheVariants.{Ask, Order, Numbered}
-use Rattle.dine_serve.specs.Answers.{entry_in}
-use Rattle.dine_serve.specs.Receipts.{coming_at, coming_of, has_number, settled}
-use Rattle.dine_serve.specs.Repeats.{is_carried_out, is_first, times_carried_out}
-use Rattle.dine_serve.specs.Requests.{reading_of}
-use Rattle.dine_serve.specs.Serving.{Broker, after_coming, after_deed, after_making, after_reading, answer_done, counted, retries_after, is_full, received}
-use Rattle.dine_serve.specs.Waits.{receipts_after, receipts_begun}
+use Rattle.dine_serve.specs.declared.request.Deed.TheVariants.{Await as await}
 
 -- ---- what stands at a place of a list
 
@@ -87,18 +64,22 @@ has-is (Some (Some last)) number h = ap (λ n. Some (Some n)) (eqb-true last.num
 
 -- the entry of a begin that waited changes no number
 same-settled : (receipts : List (Option Receipt)) (a : Await) (e : Entry) → Same receipts (settled receipts a e)
-same-settled receipts a e pass = elim (cases_Bool (has_number (slice_get receipts a.pass) a.number)) [
-  | inr off ↦ rw off refl
-  | inl has ↦
-      let r : Receipt = record { number = a.number; answer = Made e } in
-      let is = has-is (slice_get receipts a.pass) a.number has in
-      rw has (elim (cases_Bool (eqb a.pass pass)) [
-        | inl here ↦
-            subst (λ p. number_at (slice_set receipts a.pass (Some r)) p ≡ number_at receipts p) (eqb-true a.pass pass here)
-            (put-same receipts a.pass r (Some a.number) is ∙ sym is)
-        | inr off ↦ put-other receipts a.pass pass r off
-      ])
-]
+same-settled receipts a e pass = by a.number
+  where
+    by : (number : Option ℕ) → number_at (settled_by number receipts a.pass e) pass ≡ number_at receipts pass
+    by None = refl
+    by (Some number) = elim (cases_Bool (has_number (slice_get receipts a.pass) number)) [
+      | inr off ↦ rw off refl
+      | inl has ↦
+          let r : Receipt = record { number = number; answer = Made e } in
+          let is = has-is (slice_get receipts a.pass) number has in
+          rw has (elim (cases_Bool (eqb a.pass pass)) [
+            | inl here ↦
+                subst (λ p. number_at (slice_set receipts a.pass (Some r)) p ≡ number_at receipts p) (eqb-true a.pass pass here)
+                (put-same receipts a.pass r (Some number) is ∙ sym is)
+            | inr off ↦ put-other receipts a.pass pass r off
+          ])
+    ]
 
 -- nor do those of all that begin
 same-begun : (t : Table) (others : List Await) (receipts : List (Option Receipt)) → Same receipts (receipts_begun t others receipts)
@@ -120,7 +101,7 @@ same-made : (s : Broker) (c : Call) → Same s.receipts (after_making s c).recei
 same-made s c pass = same-after (retries_after s c) (table_after_call s.table c) s.awaits s.receipts pass
 
 -- nor does a request, before its receipt is put
-pub same-done : (s : Broker) (p number : ℕ) (deed : Deed) → Same s.receipts (after_deed s p number deed).receipts
+pub same-done : (s : Broker) (p : ℕ) (number : Option ℕ) (deed : Deed) → Same s.receipts (after_deed s p number deed).receipts
 same-done s p number (Make c) pass = same-made s c pass
 same-done s p number (Cancel u) pass = refl
 same-done s p number (await u) pass = elim (cases_Bool (has_to_wait s.table u)) [
@@ -174,23 +155,23 @@ reaches-put pass number p r receipts above past = elim (cases_Bool (eqb p pass))
 
 module _ (s : Broker) (p n : ℕ) (deed : Deed) (first : coming_of s.receipts p n ≡ First) where
   -- the number of its pass's last request is below its own, also after it is carried out
-  not_past : (last : ℕ) → number_at (after_deed s p n deed).receipts p ≡ Some (Some last) → last ≤ n
+  not_past : (last : ℕ) → number_at (after_deed s p (Some n) deed).receipts p ≡ Some (Some last) → last ≤ n
   not_past last is =
-      let below = first-above (slice_get s.receipts p) n last first (sym (same-done s p n deed p) ∙ is) in
+      let below = first-above (slice_get s.receipts p) n last first (sym (same-done s p (Some n) deed p) ∙ is) in
       omega (arith, below)
 
-  reaches-received : (pass number : ℕ) (answer : Option RequestAnswer) → reaches number (number_at s.receipts pass) → reaches number (number_at (received p n answer (after_deed s p n deed)).receipts pass)
-  reaches-received pass number None past = subst (reaches number) (sym (same-done s p n deed pass)) past
+  reaches-received : (pass number : ℕ) (answer : Option RequestAnswer) → reaches number (number_at s.receipts pass) → reaches number (number_at (received p n answer (after_deed s p (Some n) deed)).receipts pass)
+  reaches-received pass number None past = subst (reaches number) (sym (same-done s p (Some n) deed pass)) past
   reaches-received pass number (Some answer) past =
-      reaches-put pass number p record { number = n; answer = answer } (after_deed s p n deed).receipts not_past
-      (subst (reaches number) (sym (same-done s p n deed pass)) past)
+      reaches-put pass number p record { number = n; answer = answer } (after_deed s p (Some n) deed).receipts not_past
+      (subst (reaches number) (sym (same-done s p (Some n) deed pass)) past)
 
   -- and then it is its own
-  received-reaches : (answer : Option RequestAnswer) → is_some answer ≡ true → reaches n (number_at (received p n answer (after_deed s p n deed)).receipts p)
+  received-reaches : (answer : Option RequestAnswer) → is_some answer ≡ true → reaches n (number_at (received p n answer (after_deed s p (Some n) deed)).receipts p)
   received-reaches None some = absurd (let k : false ≡ true = some in cc)
   received-reaches (Some answer) some =
       let (x, is) = first-some (slice_get s.receipts p) n first in
-      subst (reaches n) (sym (put-same (after_deed s p n deed).receipts p record { number = n; answer = answer } x (same-done s p n deed p ∙ is))) (omega arith)
+      subst (reaches n) (sym (put-same (after_deed s p (Some n) deed).receipts p record { number = n; answer = answer } x (same-done s p (Some n) deed p ∙ is))) (omega arith)
 
 -- no request with a number lets a pass fall back, however it comes
 reaches-coming : (s : Broker) (p n : ℕ) (deed : Deed) (coming : Coming) → coming_of s.receipts p n ≡ coming → (pass number : ℕ) → reaches number (number_at s.receipts pass) → reaches number (number_at (after_coming s p n deed coming).receipts pass)
@@ -203,7 +184,7 @@ reaches-coming s p n deed Foreign is pass number past = past
 reaches-reading : (s : Broker) (r : Result (Option Request) LineFault) (pass number : ℕ) → reaches number (number_at s.receipts pass) → reaches number (number_at (after_reading s r).receipts pass)
 reaches-reading s (Ok None) pass number past = past
 reaches-reading s (Ok (Some (Ask question))) pass number past = past
-reaches-reading s (Ok (Some (Order p deed))) pass number past = subst (reaches number) (sym (same-done s p 0 deed pass)) past
+reaches-reading s (Ok (Some (Order p deed))) pass number past = subst (reaches number) (sym (same-done s p None deed pass)) past
 reaches-reading s (Ok (Some (Numbered p n deed))) pass number past = reaches-coming s p n deed (coming_of s.receipts p n) refl pass number past
 reaches-reading s (Err found) pass number past = past
 

@@ -1,13 +1,5 @@
 -- What is written after a first line.
-use Rattle.std.proofs.Common.{◌≡◌, ℕ, List, [], ◌∷◌, ◌++◌, Option, IfSome, sym, subst, append-nil}
-use Rattle.std.proofs.lemmas.Grind.{flat_map-append}
-use Rattle.std.proofs.KnownBytes.{Appends-kept, Appends-nil, Appends-trans}
-use Rattle.std.specs.Io.KnownBytes.{Appends, Keeps}
-use Rattle.dine_streams.specs.Lines.{seen_lines}
-use Rattle.dine_serve.specs.Serving.{Broker, said_from}
-use Rattle.dine_streams.specs.Written.{AppendsLinesOf, AppendsPartOf}
-use Rattle.dine_serve.specs.Streams.{HasAnswered}
-use Rattle.dine_words.specs.Texts.{text_of_lines}
+use Rattle.dine_serve.proofs.Words.{◌≡◌, ℕ, List, [], ◌∷◌, ◌++◌, Option, IfSome, sym, subst, append-nil, flat_map-append, Appends-kept, Appends-nil, Appends-trans, Appends, Keeps, seen_lines, Broker, said_from, AppendsLinesOf, AppendsPartOf, HasAnswered, text_of_lines}
 use Rattle.dine_serve.proofs.Answering.{for_all_known, lines-later, of_known, part-later}
 
 -- nothing is written

@@ -1,29 +1,8 @@
 -- Those who wait stand in the order of last meals.
-use Rattle.std.proofs.Common.{◌≡◌, ℕ, eqb, Bool, true, false, List, [], ◌∷◌, Option, Some, None, is_none, inl, inr, Result, Ok, Err, refl, sym, ap, ◌∙◌}
-use Rattle.std.proofs.lemmas.Bool.{cases_Bool}
-use Rattle.dine_words.specs.declared.call.Call.{Call}
+use Rattle.dine_serve.proofs.Words.{◌≡◌, ℕ, eqb, Bool, true, false, List, [], ◌∷◌, Option, Some, None, is_none, inl, inr, Result, Ok, Err, refl, sym, ap, ◌∙◌, cases_Bool, Call, Diner, State, Thinking, Hungry, Eating, Task, Table, same_task, stands_before, state_in, state_of, changed_by, has_to_wait, newcomer, refusal_of, table_after_call, without, absent_differs, found, free_slot-unused, is_used, same_task-true, stands_before-append, stands_before-with_state, stands_before-without, Await, LineFault, RequestAnswer, Coming, First, Again, Stale, Foreign, Deed, Make, Cancel, Request, Ask, Order, Numbered, coming_of, reading_of, Broker, after_coming, after_deed, after_making, after_reading, answer_done, counted, retries_after, is_full, received, standing_from, AllWait, InOrder, NoneBefore, is_await_of, noted, still_waiting, table_after_begins, table_begun, taken_back, waiting_after}
 use Rattle.dine_words.specs.declared.call.Call.TheVariants as call
-use Rattle.dine_words.specs.declared.task.Diner.{Diner}
-use Rattle.dine_words.specs.declared.task.State.{State}
-use Rattle.dine_words.specs.declared.task.State.TheVariants.{Thinking, Hungry, Eating}
-use Rattle.dine_words.specs.declared.task.Task.{Task}
-use Rattle.dine_table.specs.Table.{Table, same_task, stands_before, state_in, state_of}
-use Rattle.dine_table.specs.Calls.{changed_by, has_to_wait, newcomer, refusal_of, table_after_call, without}
-use Rattle.dine_table.proofs.CallerLemmas.{absent_differs, found, free_slot-unused, is_used, same_task-true, stands_before-append, stands_before-with_state, stands_before-without}
-use Rattle.dine_serve.specs.declared.awaits.Await.{Await}
-use Rattle.dine_serve.specs.declared.request_fault.LineFault.{LineFault}
-use Rattle.dine_serve.specs.declared.receipts.RequestAnswer.{RequestAnswer}
-use Rattle.dine_serve.specs.declared.receipts.Coming.{Coming}
-use Rattle.dine_serve.specs.declared.receipts.Coming.TheVariants.{First, Again, Stale, Foreign}
-use Rattle.dine_serve.specs.declared.request.Deed.{Deed}
-use Rattle.dine_serve.specs.declared.request.Deed.TheVariants.{Make, Await as await, Cancel}
-use Rattle.dine_serve.specs.declared.request.Request.{Request}
-use Rattle.dine_serve.specs.declared.request.Request.TheVariants.{Ask, Order, Numbered}
-use Rattle.dine_serve.specs.Receipts.{coming_of}
-use Rattle.dine_serve.specs.Requests.{reading_of}
-use Rattle.dine_serve.specs.Serving.{Broker, after_coming, after_deed, after_making, after_reading, answer_done, counted, retries_after, is_full, received, standing_from}
-use Rattle.dine_serve.specs.Waits.{AllWait, InOrder, NoneBefore, is_await_of, noted, still_waiting, table_after_begins, table_begun, taken_back, waiting_after}
-use Rattle.dine_serve.proofs.Waiting.{all-wait-read, is_none-None, who_waits-hungry}
+use Rattle.dine_serve.specs.declared.request.Deed.TheVariants.{Await as await}
+use Rattle.dine_serve.proofs.Waiting.{all-left-wait, all-noted-wait, all-others-wait, all-wait-on, is_none-None, not-ended, who_waits-hungry}
 
 -- ---- the order of last meals is one
 
@@ -39,7 +18,7 @@ before-one_way (d ∷ ds) a b h = elim (cases_Bool (same_task d.task b)) [
 ]
 
 -- whoever stands before the first of two stands before the second
-before-through : (order : List Diner) (x a b : Task) → stands_before order x a ≡ true → stands_before order a b ≡ true → stands_before order x b ≡ true
+pub before-through : (order : List Diner) (x a b : Task) → stands_before order x a ≡ true → stands_before order a b ≡ true → stands_before order x b ≡ true
 before-through [] x a b h k = absurd (let no_way : false ≡ true = h in cc)
 before-through (d ∷ ds) x a b h k = elim (cases_Bool (same_task d.task b)) [
   | inl e ↦ absurd (let no_way : false ≡ true = rw e at k in cc)
@@ -117,7 +96,7 @@ in_order-still order t (a ∷ others) all = elim (cases_Bool (has_to_wait t a.ta
 ]
 
 -- a begin changes no order
-begin-order : (t : Table) (v a b : Task) → stands_before (table_after_call t (call.Begin v)).order a b ≡ stands_before t.order a b
+pub begin-order : (t : Table) (v a b : Task) → stands_before (table_after_call t (call.Begin v)).order a b ≡ stands_before t.order a b
 begin-order t v a b = elim (cases_Bool (is_none (refusal_of t (call.Begin v)))) [
   | inl e ↦ rw e (stands_before-with_state Eating v a b t.order)
   | inr e ↦ rw e refl
@@ -136,7 +115,7 @@ module _ (order order' : List Diner) (same : (a b : Task) → stands_before orde
   none-same u [] none = tt
   none-same u (a ∷ others) none = (same a.task u ∙ none.0, none-same u others none.1)
 
-  in_order-same : (others : List Await) → InOrder order others → InOrder order' others
+  pub in_order-same : (others : List Await) → InOrder order others → InOrder order' others
   in_order-same [] all = tt
   in_order-same (a ∷ others) all = (none-same a.task others all.0, in_order-same others all.1)
 
@@ -215,49 +194,53 @@ in_order-called t c (a ∷ others) all order = (none-called t c a.task others al
 
 -- ---- after each line
 
--- those who wait stand in order after a call and the begins that it lets go on
-in_order-made : (s : Broker) (c : Call) → AllWait s.table s.awaits → InOrder s.table.order s.awaits → InOrder (after_making s c).table.order (after_making s c).awaits
-in_order-made s c all order = by (retries_after s c)
+-- each has to wait, and they stand in order
+abbrev pub IsAtRest : Broker → Type 0
+IsAtRest s = AllWait s.table s.awaits × InOrder s.table.order s.awaits
+
+-- so it is after a call and the begins that it lets go on
+rests-made : (s : Broker) (c : Call) → IsAtRest s → IsAtRest (after_making s c)
+rests-made s c (all, order) = by (retries_after s c) refl
   where
-    by : (ends : Bool) → InOrder (table_after_begins ends (table_after_call s.table c) s.awaits).order (waiting_after ends (table_after_call s.table c) s.awaits)
-    by true = in_order-begun (table_after_call s.table c) s.awaits (in_order-called s.table c s.awaits all order)
-    by false = in_order-called s.table c s.awaits all order
+    by : (ends : Bool) → retries_after s c ≡ ends → AllWait (table_after_begins ends (table_after_call s.table c) s.awaits) (waiting_after ends (table_after_call s.table c) s.awaits) × InOrder (table_after_begins ends (table_after_call s.table c) s.awaits).order (waiting_after ends (table_after_call s.table c) s.awaits)
+    by true is = (all-left-wait (table_after_call s.table c) s.awaits, in_order-begun (table_after_call s.table c) s.awaits (in_order-called s.table c s.awaits all order))
+    by false is = (all-wait-on s.table (table_after_call s.table c) s.awaits (not-ended s.table c is) all, in_order-called s.table c s.awaits all order)
 
 -- and after a request
-in_order-done : (s : Broker) (pass number : ℕ) (deed : Deed) → AllWait s.table s.awaits → InOrder s.table.order s.awaits → InOrder (after_deed s pass number deed).table.order (after_deed s pass number deed).awaits
-in_order-done s pass number (Make c) all order = in_order-made s c all order
-in_order-done s pass number (Cancel u) all order = in_order-taken_back s.table.order pass u s.awaits order
-in_order-done s pass number (await u) all order = elim (cases_Bool (has_to_wait s.table u)) [
+rests-done : (s : Broker) (pass : ℕ) (number : Option ℕ) (deed : Deed) → IsAtRest s → IsAtRest (after_deed s pass number deed)
+rests-done s pass number (Make c) rest = rests-made s c rest
+rests-done s pass number (Cancel u) (all, order) = (all-others-wait s.table pass u s.awaits all, in_order-taken_back s.table.order pass u s.awaits order)
+rests-done s pass number (await u) rest = elim (cases_Bool (has_to_wait s.table u)) [
   | inl e ↦ rw e (elim (cases_Bool (is_full s)) [
-    | inl f ↦ rw f order
-    | inr f ↦ rw f (in_order-noted s.table.order record { pass = pass; task = u; number = number } s.awaits order)
+    | inl f ↦ rw f rest
+    | inr f ↦
+        let a : Await = record { pass = pass; task = u; number = number } in
+        rw f (all-noted-wait s.table s.table.order a s.awaits e rest.0, in_order-noted s.table.order a s.awaits rest.1)
   ])
-  | inr e ↦ rw e (in_order-made s (call.Begin u) all order)
+  | inr e ↦ rw e (rests-made s (call.Begin u) rest)
 ]
 
 -- and after a receipt
-in_order-received : (s : Broker) (pass number : ℕ) (answer : Option RequestAnswer) → InOrder s.table.order s.awaits → InOrder (received pass number answer s).table.order (received pass number answer s).awaits
-in_order-received s pass number None order = order
-in_order-received s pass number (Some answer) order = order
+rests-received : (s : Broker) (pass number : ℕ) (answer : Option RequestAnswer) → IsAtRest s → IsAtRest (received pass number answer s)
+rests-received s pass number None rest = rest
+rests-received s pass number (Some answer) rest = rest
 
 -- and after a request with a number, however it comes
-in_order-coming : (s : Broker) (pass number : ℕ) (deed : Deed) (coming : Coming) → AllWait s.table s.awaits → InOrder s.table.order s.awaits → InOrder (after_coming s pass number deed coming).table.order (after_coming s pass number deed coming).awaits
-in_order-coming s pass number deed First all order = in_order-received (after_deed s pass number deed) pass number (answer_done s pass deed) (in_order-done s pass number deed all order)
-in_order-coming s pass number deed (Again answer) all order = order
-in_order-coming s pass number deed Stale all order = order
-in_order-coming s pass number deed Foreign all order = order
+rests-coming : (s : Broker) (pass number : ℕ) (deed : Deed) (coming : Coming) → IsAtRest s → IsAtRest (after_coming s pass number deed coming)
+rests-coming s pass number deed First rest = rests-received (after_deed s pass (Some number) deed) pass number (answer_done s pass deed) (rests-done s pass (Some number) deed rest)
+rests-coming s pass number deed (Again answer) rest = rest
+rests-coming s pass number deed Stale rest = rest
+rests-coming s pass number deed Foreign rest = rest
 
 -- and after a line
-in_order-read : (s : Broker) (r : Result (Option Request) LineFault) → AllWait s.table s.awaits → InOrder s.table.order s.awaits → InOrder (after_reading s r).table.order (after_reading s r).awaits
-in_order-read s (Ok None) all order = order
-in_order-read s (Ok (Some (Ask question))) all order = order
-in_order-read s (Ok (Some (Order pass deed))) all order = in_order-done s pass 0 deed all order
-in_order-read s (Ok (Some (Numbered pass number deed))) all order = in_order-coming s pass number deed (coming_of s.receipts pass number) all order
-in_order-read s (Err found) all order = order
+rests-read : (s : Broker) (r : Result (Option Request) LineFault) → IsAtRest s → IsAtRest (after_reading s r)
+rests-read s (Ok None) rest = rest
+rests-read s (Ok (Some (Ask question))) rest = rest
+rests-read s (Ok (Some (Order pass deed))) rest = rests-done s pass None deed rest
+rests-read s (Ok (Some (Numbered pass number deed))) rest = rests-coming s pass number deed (coming_of s.receipts pass number) rest
+rests-read s (Err found) rest = rest
 
 -- and after all lines
-pub in_order : (s : Broker) (lines : List (Option (List ℕ))) → AllWait s.table s.awaits → InOrder s.table.order s.awaits → InOrder (standing_from s lines).table.order (standing_from s lines).awaits
-in_order s [] all order = order
-in_order s (line ∷ lines) all order =
-    let reading = reading_of s.is_numbered line in
-    in_order (after_reading (counted s) reading) lines (all-wait-read (counted s) reading all) (in_order-read (counted s) reading all order)
+pub rests : (s : Broker) (lines : List (Option (List ℕ))) → IsAtRest s → IsAtRest (standing_from s lines)
+rests s [] rest = rest
+rests s (line ∷ lines) rest = rests (after_reading (counted s) (reading_of s.is_numbered line)) lines (rests-read (counted s) (reading_of s.is_numbered line) rest)

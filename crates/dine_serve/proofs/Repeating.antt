@@ -1,27 +1,8 @@
 -- Requests that come again: with a blank line in the place of each nothing is changed but the lines that answer them.
-use Rattle.std.proofs.Common.{◌≡◌, ℕ, ◌-◌, ◌^◌, ◌≤◌, eqb, Bool, true, false, if◌then◌else◌, List, [], ◌∷◌, ◌++◌, map, Option, Some, None, Result, Ok, Err, inl, inr, refl, sym, ap, ◌∙◌}
-use Rattle.std.proofs.lemmas.Bool.{cases_Bool}
-use Rattle.std.proofs.lemmas.List.Elements.{filter-append}
-use Rattle.std.specs.List.{filter}
+use Rattle.dine_serve.proofs.Words.{◌≡◌, ℕ, eqb, Bool, true, false, if◌then◌else◌, List, [], ◌∷◌, ◌++◌, map, Option, Some, None, Result, Ok, Err, inl, inr, refl, sym, ap, ◌∙◌, cases_Bool, filter-append, filter, Entry, has_to_wait, entry_text, LineFault, Made, Cancelled, Waits, Coming, First, Again, Stale, Foreign, Deed, Make, Cancel, Request, Ask, Order, Numbered, is_of_journal, coming_of, is_again, is_no_repeat, is_repeat, without_repeats, reading_of, Broker, after_coming, after_reading, counted, entries_by, entries_coming, entries_from, entries_made, is_full, said_coming, said_done, said_from, said_to, standing_from}
 use Rattle.dine_words.specs.declared.call.Call.TheVariants as call
-use Rattle.dine_words.specs.declared.entry.Entry.{Entry}
-use Rattle.dine_table.specs.Calls.{has_to_wait}
-use Rattle.dine_words.specs.Texts.{entry_text}
-use Rattle.dine_serve.specs.declared.request_fault.LineFault.{LineFault}
-use Rattle.dine_serve.specs.declared.receipts.RequestAnswer.TheVariants.{Made, Cancelled, Waits}
-use Rattle.dine_serve.specs.declared.receipts.Coming.{Coming}
-use Rattle.dine_serve.specs.declared.receipts.Coming.TheVariants.{First, Again, Stale, Foreign}
-use Rattle.dine_serve.specs.declared.request.Deed.{Deed}
-use Rattle.dine_serve.specs.declared.request.Deed.TheVariants.{Make, Await as await, Cancel}
-use Rattle.dine_serve.specs.declared.request.Request.{Request}
-use Rattle.dine_serve.specs.declared.request.Request.TheVariants.{Ask, Order, Numbered}
-use Rattle.dine_serve.specs.Journals.{is_of_journal}
-use Rattle.dine_serve.specs.Receipts.{coming_of}
-use Rattle.dine_serve.specs.Repeats.{is_again, is_no_repeat, is_repeat, without_repeats}
-use Rattle.dine_serve.specs.Requests.{reading_of}
-use Rattle.dine_serve.specs.Serving.{Broker, after_coming, after_reading, counted, entries_by, entries_coming, entries_from, entries_made, is_full, said_coming, said_done, said_from, said_to, standing_from}
+use Rattle.dine_serve.specs.declared.request.Deed.TheVariants.{Await as await}
 use Rattle.dine_serve.proofs.Legal.{entry_of_journal}
-use Rattle.dine_serve.proofs.LowPasses.{AllLow, LowEntries, LowReading, low-made, low-reading, reading_low}
 
 -- ---- a line that comes again
 
@@ -89,36 +70,36 @@ no_repeat (b ∷ bs) h = elim (cases_Bool (eqb b 61)) [
 ]
 
 -- no entry's line begins with `=`
-kept-entries : (es : List Entry) → LowEntries es → filter is_no_repeat (map entry_text es) ≡ map entry_text es
-kept-entries [] low = refl
-kept-entries (e ∷ es) low = rw (no_repeat (entry_text e) (entry_of_journal e low.0)) (ap (λ l. entry_text e ∷ l) (kept-entries es low.1))
+kept-entries : (es : List Entry) → filter is_no_repeat (map entry_text es) ≡ map entry_text es
+kept-entries [] = refl
+kept-entries (e ∷ es) = rw (no_repeat (entry_text e) (entry_of_journal e)) (ap (λ l. entry_text e ∷ l) (kept-entries es))
 
 -- no line that is said to a request begins with `=`, where it doesn't come again
-kept-done : (s : Broker) (pass : ℕ) (deed : Deed) → pass ≤ 2 ^ 32 - 1 → AllLow s.awaits → filter is_no_repeat (said_done s pass deed) ≡ said_done s pass deed
-kept-done s pass (Make c) low all = kept-entries (entries_made s pass c) (low-made s pass c low all)
-kept-done s pass (Cancel u) low all = refl
-kept-done s pass (await u) low all = elim (cases_Bool (has_to_wait s.table u)) [
+kept-done : (s : Broker) (pass : ℕ) (deed : Deed) → filter is_no_repeat (said_done s pass deed) ≡ said_done s pass deed
+kept-done s pass (Make c) = kept-entries (entries_made s pass c)
+kept-done s pass (Cancel u) = refl
+kept-done s pass (await u) = elim (cases_Bool (has_to_wait s.table u)) [
   | inl e ↦ rw e (elim (cases_Bool (is_full s)) [
     | inl f ↦ rw f refl
     | inr f ↦ rw f refl
   ])
-  | inr e ↦ rw e (kept-entries (entries_made s pass (call.Begin u)) (low-made s pass (call.Begin u) low all))
+  | inr e ↦ rw e (kept-entries (entries_made s pass (call.Begin u)))
 ]
 
 -- so it is with a request with a number
-kept-coming : (s : Broker) (pass : ℕ) (deed : Deed) (coming : Coming) → is_again coming ≡ false → pass ≤ 2 ^ 32 - 1 → AllLow s.awaits → filter is_no_repeat (said_coming s pass deed coming) ≡ said_coming s pass deed coming
-kept-coming s pass deed First h low all = kept-done s pass deed low all
-kept-coming s pass deed (Again answer) h low all = absurd (let k : true ≡ false = h in cc)
-kept-coming s pass deed Stale h low all = refl
-kept-coming s pass deed Foreign h low all = refl
+kept-coming : (s : Broker) (pass : ℕ) (deed : Deed) (coming : Coming) → is_again coming ≡ false → filter is_no_repeat (said_coming s pass deed coming) ≡ said_coming s pass deed coming
+kept-coming s pass deed First h = kept-done s pass deed
+kept-coming s pass deed (Again answer) h = absurd (let k : true ≡ false = h in cc)
+kept-coming s pass deed Stale h = refl
+kept-coming s pass deed Foreign h = refl
 
 -- what is said to it doesn't begin so
-kept : (s : Broker) (r : Result (Option Request) LineFault) → is_repeat s r ≡ false → LowReading r → AllLow s.awaits → filter is_no_repeat (said_to s r) ≡ said_to s r
-kept s (Ok None) h low all = refl
-kept s (Ok (Some (Ask question))) h low all = refl
-kept s (Ok (Some (Order pass deed))) h low all = kept-done s pass deed low all
-kept s (Ok (Some (Numbered pass number deed))) h low all = kept-coming s pass deed (coming_of s.receipts pass number) h low all
-kept s (Err found) h low all = refl
+kept : (s : Broker) (r : Result (Option Request) LineFault) → is_repeat s r ≡ false → filter is_no_repeat (said_to s r) ≡ said_to s r
+kept s (Ok None) h = refl
+kept s (Ok (Some (Ask question))) h = refl
+kept s (Ok (Some (Order pass deed))) h = kept-done s pass deed
+kept s (Ok (Some (Numbered pass number deed))) h = kept-coming s pass deed (coming_of s.receipts pass number) h
+kept s (Err found) h = refl
 
 -- ---- a blank line in its place
 
@@ -145,10 +126,10 @@ module _ (s : Broker) (line : Option (List ℕ)) where
     | inr e ↦ rw e refl
   ]
 
-  silent-said : AllLow s.awaits → filter is_no_repeat (said_to (counted s) reading) ≡ said_to (counted s) (reading_of s.is_numbered silent)
-  silent-said all = elim (cases_Bool (is_repeat s reading)) [
+  silent-said : filter is_no_repeat (said_to (counted s) reading) ≡ said_to (counted s) (reading_of s.is_numbered silent)
+  silent-said = elim (cases_Bool (is_repeat s reading)) [
     | inl e ↦ unsaid (counted s) reading e ∙ rw e refl
-    | inr e ↦ kept (counted s) reading e (reading_low s.is_numbered line) all ∙ rw e refl
+    | inr e ↦ kept (counted s) reading e ∙ rw e refl
   ]
 
 -- ---- many lines
@@ -173,13 +154,13 @@ entries-repeats s (line ∷ lines) =
     ∙ ap (λ t. entries_by (counted s) (reading_of s.is_numbered (silent s line)) ++ entries_from t rest) (sym (silent-after s line))
 
 -- the same is said, but for the lines that begin with `=`
-pub said-repeats : (s : Broker) (lines : List (Option (List ℕ))) → AllLow s.awaits → filter is_no_repeat (said_from s lines) ≡ said_from s (without_repeats s lines)
-said-repeats s [] all = refl
-said-repeats s (line ∷ lines) all =
+pub said-repeats : (s : Broker) (lines : List (Option (List ℕ))) → filter is_no_repeat (said_from s lines) ≡ said_from s (without_repeats s lines)
+said-repeats s [] = refl
+said-repeats s (line ∷ lines) =
     let reading = reading_of s.is_numbered line in
     let next = after_reading (counted s) reading in
     let rest = without_repeats next lines in
     filter-append is_no_repeat (said_to (counted s) reading) (said_from next lines)
-    ∙ ap (λ l. filter is_no_repeat (said_to (counted s) reading) ++ l) (said-repeats next lines (low-reading (counted s) reading (reading_low s.is_numbered line) all))
-    ∙ ap (λ l. l ++ said_from next rest) (silent-said s line all)
+    ∙ ap (λ l. filter is_no_repeat (said_to (counted s) reading) ++ l) (said-repeats next lines)
+    ∙ ap (λ l. l ++ said_from next rest) (silent-said s line)
     ∙ ap (λ t. said_to (counted s) (reading_of s.is_numbered (silent s line)) ++ said_from t rest) (sym (silent-after s line))

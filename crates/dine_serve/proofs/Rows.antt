@@ -1,51 +1,58 @@
--- Lists of which some in front are there no more.
-use Rattle.std.proofs.Common.{◌≡◌, ℕ, suc, ◌+◌, ◌-◌, ◌<◌, ◌≤◌, List, ◌∷◌, ◌++◌, length, take, drop, set, get_or, sym, ap, ◌∙◌, arith}
-use lib.Seq.{paste}
-use Rattle.std.proofs.lemmas.List.{append_assoc, drop-append-le, drop-drop, drop-take, drop_at, drop_more, set_at, length-append, length-drop, length-take-le}
+-- The queues by slot, where one of them is written, or one more is taken in.
+use Rattle.dine_serve.proofs.Words.{◌≡◌, ℕ, zero, suc, ◌<◌, ◌≤◌, eqb, true, false, List, [], ◌∷◌, ◌++◌, length, get_or, slice_set, unwrap_or, inl, inr, refl, sym, ap, ◌∙◌, subst, eq-eqb, arith, cases_Bool, eqb-true, length-map, map-append, map-set, slice_get_past, Global, VecDeque, slice_get-set_other, slice_get-set_same, Await, Changes, SameQueues, queue_at, rows_of}
 
--- what is behind the first places of a list is behind them without those in front
-in_front : {X : Type 0} (xs ys : List X) (g p : ℕ) → g + p ≤ length xs → drop g (take (g + p) xs ++ ys) ≡ take p (drop g xs) ++ ys
-in_front xs ys g p fits = drop-append-le g (take (g + p) xs) ys (let long = length-take-le (g + p) xs fits in omega (arith, long)) ∙ ap (λ l. l ++ ys) (drop-take g p xs)
+-- a queue is written at a slot that is there
+set-changes : (rows : List (List Await)) (slot : ℕ) (queue : List Await) → slot < length rows → Changes rows (slice_set rows slot queue) slot queue
+set-changes rows slot queue less = record {
+  changed = ap (λ o. unwrap_or o []) (slice_get-set_same rows slot queue less);
+  others = λ s off. ap (λ o. unwrap_or o []) (slice_get-set_other rows slot s queue (λ same. let two : true ≡ false = sym (eq-eqb slot s same) ∙ off in cc));
+}
 
--- a place behind those in front is a place of the list
-inside : {X : Type 0} (xs v : List X) (g p : ℕ) → drop g xs ≡ v → g ≤ length xs → p ≤ length v → g + p ≤ length xs
-inside xs v g p is fits within = let long = sym (length-drop g xs) ∙ ap length is in omega (arith, long, fits, within)
+-- a slot that isn't there has nobody
+pub none-past : (rows : List (List Await)) (slot : ℕ) → length rows ≤ slot → queue_at rows slot ≡ []
+none-past rows slot past = ap (λ o. unwrap_or o []) (slice_get_past rows slot past)
 
--- where one is taken out of it, it is taken out of those that are there
-pub taken_out : {X : Type 0} (xs v : List X) (g p : ℕ) → drop g xs ≡ v → g ≤ length xs → p < length v → drop g (take (g + p) xs ++ drop (suc (g + p)) xs) ≡ take p v ++ drop (p + 1) v
-taken_out xs v g p is fits within =
-    let at : suc (g + p) ≡ g + (p + 1) = omega arith in
-    let cut = in_front xs (drop (suc (g + p)) xs) g p (inside xs v g p is fits (omega (arith, within))) in
-    let rest : drop (suc (g + p)) xs ≡ drop (p + 1) (drop g xs) = ap (λ k. drop k xs) at ∙ sym (drop-drop (p + 1) g xs) in
-    cut ∙ ap (λ l. take p (drop g xs) ++ l) rest ∙ ap (λ l. take p l ++ drop (p + 1) l) is
+-- nothing is written
+pub unchanged : (rows : List (List Await)) (slot : ℕ) (queue : List Await) → queue_at rows slot ≡ queue → Changes rows rows slot queue
+unchanged rows slot queue same = record { changed = same; others = λ s off. refl }
 
--- where one is put in, it is put in among those
-pub put_in : {X : Type 0} (xs v : List X) (g p : ℕ) (x : X) → drop g xs ≡ v → g ≤ length xs → p ≤ length v → drop g (take (g + p) xs ++ x ∷ drop (g + p) xs) ≡ take p v ++ x ∷ drop p v
-put_in xs v g p x is fits within =
-    let cut = in_front xs (x ∷ drop (g + p) xs) g p (inside xs v g p is fits within) in
-    cut ∙ ap (λ l. take p (drop g xs) ++ x ∷ l) (sym (drop-drop p g xs)) ∙ ap (λ l. take p l ++ x ∷ drop p l) is
+-- where the queue at a slot is as it was, all are
+pub same-changes : (rows rows' : List (List Await)) (slot : ℕ) → Changes rows rows' slot (queue_at rows slot) → SameQueues rows rows'
+same-changes rows rows' slot changes s = elim (cases_Bool (eqb slot s)) [
+  | inl e ↦ subst (λ k. queue_at rows' k ≡ queue_at rows k) (eqb-true slot s e) changes.changed
+  | inr e ↦ changes.others s e
+]
 
--- where it is put in and those before it move one place to the front, so it is too
-pub put_before : {X : Type 0} (xs v : List X) (g p : ℕ) (x : X) → drop g xs ≡ v → 0 < g → g ≤ length xs → p < length v → drop (g - 1) (set (paste xs (g - 1) (drop g xs) (g + p - g)) (g - 1 + p) x) ≡ take p v ++ x ∷ drop p v
-put_before {X} xs v g p x is some fits within =
-    let f : ℕ = g - 1 in
-    let count : g + p - g ≡ p = omega arith in
-    let all : g + p < length xs = (let long = sym (length-drop g xs) ∙ ap length is in omega (arith, long, fits, within)) in
-    let rest : List X = drop (f + p + 1) xs in
-    let front : List X = take f xs ++ take p (drop g xs) in
-    let first : length (take f xs) ≡ f = length-take-le f xs (omega (arith, fits)) in
-    let moved : length (take p (drop g xs)) ≡ p = length-take-le p (drop g xs) (let long = length-drop g xs in omega (arith, long, all)) in
-    let long : length front ≡ f + p = length-append (take f xs) (take p (drop g xs)) ∙ ap (λ n. n + length (take p (drop g xs))) first ∙ ap (λ n. f + n) moved in
-    let laid : paste xs f (drop g xs) (g + p - g) ≡ front ++ get_or xs (f + p) x ∷ rest = ap (paste xs f (drop g xs)) count ∙ ap (λ l. front ++ l) (drop_more xs (f + p) x (omega (arith, all, some))) in
-    let written : set (paste xs f (drop g xs) (g + p - g)) (f + p) x ≡ front ++ x ∷ rest = ap (λ l. set l (f + p) x) laid ∙ set_at front (get_or xs (f + p) x) rest x (f + p) long in
-    let behind : rest ≡ drop p (drop g xs) = ap (λ k. drop k xs) (let at : f + p + 1 ≡ g + p = omega (arith, some) in at) ∙ sym (drop-drop p g xs) in
-    ap (drop f) written ∙ ap (drop f) (append_assoc (take f xs) (take p (drop g xs)) (x ∷ rest)) ∙ drop_at (take f xs) (take p (drop g xs) ++ x ∷ rest) f first
-    ∙ ap (λ l. take p (drop g xs) ++ x ∷ l) behind ∙ ap (λ l. take p l ++ x ∷ drop p l) is
+-- where all were as they were before one was written, it alone is written
+pub after-same : (rows rows' rows'' : List (List Await)) (slot : ℕ) (queue : List Await) → SameQueues rows rows' → Changes rows' rows'' slot queue → Changes rows rows'' slot queue
+after-same rows rows' rows'' slot queue same changes = record { changed = changes.changed; others = λ s off. changes.others s off ∙ same s }
 
--- one fewer is there where one is taken out
-pub one_fewer : {X : Type 0} (xs ys : List X) (p end : ℕ) → ys ≡ take p xs ++ drop (p + 1) xs → p < end → end ≤ length xs → end - 1 ≤ length ys
-one_fewer xs ys p end is before fits =
-    let long = ap length is ∙ length-append (take p xs) (drop (p + 1) xs) in
-    let front = length-take-le p xs (omega (arith, before, fits)) in
-    let rest = length-drop (p + 1) xs in
-    omega (arith, long, front, rest, before, fits)
+-- the queue at a slot is what is read there
+pub row-at : (queues : List (VecDeque Await Global)) (slot : ℕ) (q : VecDeque Await Global) → slot < length queues → q ≡ get_or queues slot q → queue_at (rows_of queues) slot ≡ q.items
+row-at [] slot q less is = absurd (omega arith)
+row-at (x ∷ xs) zero q less is = ap (λ (y : VecDeque Await Global). y.items) (sym is)
+row-at (x ∷ xs) (suc slot) q less is = row-at xs slot q (omega arith) is
+
+-- one empty queue more
+grown : (rows : List (List Await)) (slot : ℕ) → queue_at (rows ++ [] ∷ []) slot ≡ queue_at rows slot
+grown [] zero = refl
+grown [] (suc slot) = refl
+grown (row ∷ rows) zero = refl
+grown (row ∷ rows) (suc slot) = grown rows slot
+
+module _ (queues : List (VecDeque Await Global)) where
+  -- there are as many queues as lists
+  pub rows-length : length (rows_of queues) ≡ length queues
+  rows-length = simp length-map
+
+  -- a deque is written at a slot
+  pub put-changes : (slot : ℕ) (q : VecDeque Await Global) (queue : List Await) → slot < length queues → q.items ≡ queue → Changes (rows_of queues) (rows_of (slice_set queues slot q)) slot queue
+  put-changes slot q queue less is =
+      subst (λ l. Changes (rows_of queues) (rows_of (slice_set queues slot q)) slot l) is
+      (subst (λ rows. Changes (rows_of queues) rows slot q.items) (sym (map-set (λ (x : VecDeque Await Global). x.items) queues slot q))
+      (set-changes (rows_of queues) slot q.items (subst (λ n. slot < n) (sym rows-length) less)))
+
+  -- an empty one is taken in
+  pub grown-same : (q : VecDeque Await Global) → q.items ≡ [] → SameQueues (rows_of queues) (rows_of (queues ++ q ∷ []))
+  grown-same q none slot =
+      ap (λ rows. queue_at rows slot) (map-append (λ (x : VecDeque Await Global). x.items) queues (q ∷ []) ∙ ap (λ l. rows_of queues ++ l ∷ []) none) ∙ grown (rows_of queues) slot

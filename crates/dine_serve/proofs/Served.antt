@@ -1,15 +1,6 @@
 -- How a service ends that writes a first line, and then answers what it hears.
-use Rattle.std.proofs.Common.{◌≡◌, ℕ, Bool, true, false, List, [], ◌∷◌, ◌++◌, Option, IfSome, IfOk, OnOk, Result, Ok, Err, refl, sym, ap, ◌∙◌}
+use Rattle.dine_serve.proofs.Words.{◌≡◌, ℕ, Bool, true, false, List, [], ◌∷◌, ◌++◌, Option, IfSome, IfOk, OnOk, Result, Ok, Err, refl, sym, ap, ◌∙◌, Appends, text_of_lines, CliFault, Memory, Read, Write, Ended, end_of, AppendsLinesOf, AppendsPartOf, Broker, has_fault_of, said_to_input, HasAnswered, Says, Serves}
 use Rattle.std.specs.Result.{IsErr}
-use Rattle.std.specs.Io.KnownBytes.{Appends}
-use Rattle.dine_words.specs.Texts.{text_of_lines}
-use Rattle.dine_streams.specs.declared.ended.CliFault.{CliFault}
-use Rattle.dine_streams.specs.declared.ended.CliFault.TheVariants.{Memory, Read, Write}
-use Rattle.dine_streams.specs.declared.ended.Ended.{Ended}
-use Rattle.dine_streams.specs.Ending.{end_of}
-use Rattle.dine_streams.specs.Written.{AppendsLinesOf, AppendsPartOf}
-use Rattle.dine_serve.specs.Serving.{Broker, has_fault_of, said_to_input}
-use Rattle.dine_serve.specs.Streams.{HasAnswered, Says, Serves}
 use Rattle.dine_serve.proofs.Answering.{of_known, on_ok}
 use Rattle.dine_serve.proofs.Opening.{headed-all, headed-answered, headed-in_lines, headed-in_part}
 

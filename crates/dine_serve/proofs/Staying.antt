@@ -1,30 +1,9 @@
--- Whoever has to wait waits on after a call that sends no fork.
-use Rattle.std.proofs.Common.{◌≡◌, ℕ, zero, suc, ◌==◌, Bool, true, false, not, cond, ◌+◌, List, [], ◌∷◌, ◌++◌, Option, Some, None, is_none, inl, inr, refl, sym, ap, ◌∙◌, append-nil, arith, map}
-use Rattle.std.specs.List.{count_by, list_any}
-use Rattle.std.proofs.lemmas.Bool.{cases_Bool, or_parts}
-use Rattle.std.proofs.lemmas.Bool.Decides.{nat_tests}
-use Rattle.std.proofs.lemmas.List.Sums.{sum_by-cons}
-use Rattle.std.proofs.lemmas.Map.Views.{Contains-from_any}
-use Rattle.dine_words.specs.declared.call.Call.{Call}
+-- Whoever has to wait waits on after a call that can't have ended its wait.
+use Rattle.dine_serve.proofs.Words.{◌≡◌, ℕ, ◌+◌, Bool, true, false, not, ◌&&◌, List, [], ◌∷◌, ◌++◌, Option, Some, None, is_none, inl, inr, refl, sym, ap, ◌∙◌, append-nil, map, cons_option, filter, list_any, and_parts, cases_Bool, or_cases, or_parts, Contains-from_any, Call, Refusal, Done, Diner, Thinking, Eating, Task, entry_text, text_of_lines, is_done, may_end_waits, Table, are_in_conflict, is_between, keeps_waiting, neighbours_in, neighbours_of, other_end, same_task, state_in, state_of, acceptance_of, has_to_wait, moved_last, refusal_of, reply_of, table_after_call, with_state, without, conflict_either_way, found, neighbours_exactly, same_task-sym, same_task-true, stands_before-append, stands_before-with_state, stands_before-without, state_in-append_other, state_in-with_state_other, state_in-without_other, Await, Receipt, AllWaitBut, may_have_ended, Broker, after_begins, after_making, retries_after, AllWait, begun_after, begun_from, is_accepted, receipts_begun, still_waiting, table_begun}
 use Rattle.dine_words.specs.declared.call.Call.TheVariants as call
-use Rattle.dine_words.specs.declared.call.Refusal.{Refusal}
-use Rattle.dine_words.specs.declared.call.Reply.TheVariants.{Done}
-use Rattle.dine_words.specs.declared.task.Diner.{Diner}
-use Rattle.dine_words.specs.declared.task.State.TheVariants.{Thinking, Hungry, Eating}
-use Rattle.dine_words.specs.declared.task.Task.{Task}
-use Rattle.dine_table.specs.Table.{Table, are_in_conflict, is_in, keeps_waiting, neighbours_of, same_task, state_in, state_of}
-use Rattle.dine_words.specs.Waits.{is_done}
-use Rattle.dine_table.specs.Calls.{acceptance_of, has_to_wait, moved_last, refusal_of, reply_of, table_after_call, without}
-use Rattle.dine_table.specs.Messages.{cost_of}
-use Rattle.dine_table.proofs.CallerLemmas.{found, neighbour_passes, neighbours_exactly, same_task-sym, same_task-true, stands_before-append, stands_before-without, state_in-append_other, state_in-without_other}
-use Rattle.dine_serve.specs.declared.awaits.Await.{Await}
-use Rattle.dine_serve.specs.declared.receipts.Receipt.{Receipt}
-use Rattle.dine_serve.specs.Serving.{Broker, after_begins, after_making, retries_after}
-use Rattle.dine_words.specs.Texts.{text_of_lines, entry_text}
-use Rattle.dine_serve.specs.Waits.{AllWait, IsKeptBroker, begun_after, begun_from, is_accepted, may_end_waits_by, receipts_begun, retries_waits, still_waiting, table_begun}
 use Rattle.dine_serve.proofs.ComingAndGoing.{waits-conflict, waits-join, waits-leave}
-use Rattle.dine_serve.proofs.Ordered.{eats, in_order-called, not_hungry}
-use Rattle.dine_serve.proofs.Waiting.{all-wait-on, is_none-None, not-ended, waits-if, waits-only}
+use Rattle.dine_serve.proofs.Ordered.{eats, not_hungry}
+use Rattle.dine_serve.proofs.Waiting.{is_none-None, not-ended, waits-begin, waits-hungry, waits-if, waits-only}
 
 -- ---- who keeps a task waiting
 
@@ -43,53 +22,110 @@ any-but p q v (x ∷ xs) more off h =
           ]
     ]
 
--- where none is counted, none passes
-none-counted : (p : Task → Bool) (xs : List Task) → count_by p xs ≡ 0 → list_any p xs ≡ false
-none-counted p [] h = refl
-none-counted p (x ∷ xs) h =
-    let count : count_by p (x ∷ xs) ≡ cond (p x) 1 0 + count_by p xs = sum_by-cons (λ y. cond (p y) 1 0) x xs in
-    elim (cases_Bool (p x)) [
-      | inl e ↦ absurd (let one = ap (λ b. cond b (suc zero) zero) e in omega (arith, count, h, one))
-      | inr e ↦ rw e (none-counted p xs (let none = ap (λ b. cond b (suc zero) zero) e in omega (arith, count, h, none)))
-    ]
-
 -- ---- a meal ends
 
+-- who isn't in conflict with a task is none of its neighbours
+not-beside : (t : Table) (v u : Task) → are_in_conflict t v u ≡ false → list_any (same_task v) (neighbours_of t u) ≡ false
+not-beside t v u apart = elim (cases_Bool (list_any (same_task v) (neighbours_of t u))) [
+  | inr e ↦ e
+  | inl e ↦ absurd (let two : true ≡ false = sym (conflict_either_way v u t.conflicts ∙ (neighbours_exactly t u v).0 (Contains-from_any {eq = same_task} same_task-true v (neighbours_of t u) e)) ∙ apart in cc)
+]
+
 -- whoever moves to the end keeps nobody waiting by it, and no other task keeps more or fewer waiting
-pub keeps-finished : (order : List Diner) (v u w : Task) → same_task v u ≡ false → same_task v w ≡ false → keeps_waiting (moved_last v order) u w ≡ keeps_waiting order u w
+keeps-finished : (order : List Diner) (v u w : Task) → same_task v u ≡ false → same_task v w ≡ false → keeps_waiting (moved_last v order) u w ≡ keeps_waiting order u w
 keeps-finished order v u w vu vw =
     let last : Diner = record { task = v; state = Thinking } in
     let state : state_in (moved_last v order) w ≡ state_in order w = state_in-append_other (without v order) last w vw ∙ state_in-without_other v w order vw in
     rw (state, stands_before-append (without v order) last w u vw vu, stands_before-without v w u order vw vu) refl
 
--- a hungry task is no neighbour of one that has no hungry neighbour
-no_neighbour : (t : Table) (v u : Task) → same_task u v ≡ false → state_of t u ≡ Some Hungry → list_any (is_in Hungry t.order) (neighbours_of t v) ≡ false → list_any (same_task v) (neighbours_of t u) ≡ false
-no_neighbour t v u other hungry none = elim (cases_Bool (list_any (same_task v) (neighbours_of t u))) [
-  | inr e ↦ e
-  | inl e ↦
-      let apart : are_in_conflict t u v ≡ true = (neighbours_exactly t u v).0 (Contains-from_any {eq = same_task} same_task-true v (neighbours_of t u) e) in
-      let calm : is_in Hungry t.order u ≡ false = neighbour_passes (is_in Hungry t.order) u v t.conflicts other apart none in
-      absurd (let two : true ≡ false = rw hungry at calm in cc)
-]
+-- whoever waited waits on where another's meal ends, unless that is a neighbour
+finished-waits : (t : Table) (v u : Task) → state_of t v ≡ Some Eating → has_to_wait t u ≡ true → are_in_conflict t v u ≡ false → has_to_wait (record t { order = moved_last v t.order; clock = t.clock + 1 }) u ≡ true
+finished-waits t v u eating waits apart =
+    let w = waits-only t u waits in
+    let left : Table = record t { order = moved_last v t.order; clock = t.clock + 1 } in
+    let last : Diner = record { task = v; state = Thinking } in
+    let vu : same_task v u ≡ false = not_hungry t v u Eating eating w.hungry eats in
+    waits-if left u
+    (state_in-append_other (without v t.order) last u vu ∙ state_in-without_other v u t.order vu ∙ w.hungry)
+    (any-but (keeps_waiting t.order u) (keeps_waiting left.order u) v (neighbours_of t u) (λ x vx keeps. keeps-finished t.order v u x vu vx ∙ keeps) (not-beside t v u apart) w.kept)
 
--- whoever waited waits on where somebody finishes and no fork is sent
-waits-finish : (t : Table) (v u : Task) → cost_of t (call.Finish v) ≡ 0 → has_to_wait t u ≡ true → has_to_wait (table_after_call t (call.Finish v)) u ≡ true
-waits-finish t v u none waits = elim (cases_Bool (is_none (refusal_of t (call.Finish v)))) [
+-- ---- a hunger is withdrawn
+
+-- who thinks in place of being hungry keeps nobody waiting by it, and no other task keeps more or fewer waiting
+keeps-withdrawn : (order : List Diner) (v u w : Task) → same_task v w ≡ false → keeps_waiting (with_state Thinking v order) u w ≡ keeps_waiting order u w
+keeps-withdrawn order v u w vw = rw (state_in-with_state_other Thinking v w order vw, stands_before-with_state Thinking v w u order) refl
+
+-- whoever waited waits on where another's hunger is withdrawn, unless that is a neighbour
+withdrawn-waits : (t : Table) (v u : Task) → has_to_wait t u ≡ true → same_task v u ≡ false → are_in_conflict t v u ≡ false → has_to_wait (record t { order = with_state Thinking v t.order }) u ≡ true
+withdrawn-waits t v u waits vu apart =
+    let w = waits-only t u waits in
+    let left : Table = record t { order = with_state Thinking v t.order } in
+    waits-if left u (state_in-with_state_other Thinking v u t.order vu ∙ w.hungry)
+    (any-but (keeps_waiting t.order u) (keeps_waiting left.order u) v (neighbours_of t u) (λ x vx keeps. keeps-withdrawn t.order v u x vx ∙ keeps) (not-beside t v u apart) w.kept)
+
+-- ---- a conflict ends
+
+-- the neighbours of a task are those that they were where a conflict between two others ends
+same-neighbours : (v w u : Task) → same_task v u ≡ false → same_task w u ≡ false → (cs : List (Task × Task)) → neighbours_in (filter (λ c. not (is_between v w c)) cs) u ≡ neighbours_in cs u
+same-neighbours v w u vu wu [] = refl
+same-neighbours v w u vu wu (c ∷ cs) = elim (cases_Bool (is_between v w c)) [
+  | inr e ↦ rw e (ap (cons_option (other_end u c)) (same-neighbours v w u vu wu cs))
+  | inl e ↦ elim (or_cases (same_task v c.0 && same_task w c.1) (same_task v c.1 && same_task w c.0) e) [
+    | inl way ↦
+        let parts = and_parts (same_task v c.0) (same_task w c.1) way in
+        let first : same_task u c.0 ≡ false = off v c.0 parts.0 vu in
+        let second : same_task u c.1 ≡ false = off w c.1 parts.1 wu in
+        rw (e, first, second) (same-neighbours v w u vu wu cs)
+    | inr way ↦
+        let parts = and_parts (same_task v c.1) (same_task w c.0) way in
+        let first : same_task u c.0 ≡ false = off w c.0 parts.1 wu in
+        let second : same_task u c.1 ≡ false = off v c.1 parts.0 vu in
+        rw (e, first, second) (same-neighbours v w u vu wu cs)
+  ]
+]
+  where
+    off : (x y : Task) → same_task x y ≡ true → same_task x u ≡ false → same_task u y ≡ false
+    off x y is xu = ap (same_task u) (sym (same_task-true x y is)) ∙ same_task-sym u x ∙ xu
+
+-- whoever waited waits on where the conflict of two others ends
+separated-waits : (t : Table) (v w u : Task) → has_to_wait t u ≡ true → same_task v u ≡ false → same_task w u ≡ false → has_to_wait (record t { conflicts = filter (λ c. not (is_between v w c)) t.conflicts }) u ≡ true
+separated-waits t v w u waits vu wu =
+    let k = waits-only t u waits in
+    waits-if (record t { conflicts = filter (λ c. not (is_between v w c)) t.conflicts }) u k.hungry
+    (ap (list_any (keeps_waiting t.order u)) (same-neighbours v w u vu wu t.conflicts) ∙ k.kept)
+
+-- ---- any call
+
+-- whoever waited waits on after a call that can't have ended its wait
+unended-waits : (t : Table) (c : Call) (u : Task) → has_to_wait t u ≡ true → may_have_ended (table_after_call t c) c u ≡ false → has_to_wait (table_after_call t c) u ≡ true
+unended-waits t (call.Finish v) u waits none = elim (cases_Bool (is_none (refusal_of t (call.Finish v)))) [
   | inr e ↦ rw e waits
   | inl e ↦
       let eating : state_of t v ≡ Some Eating = found Eating (state_of t v) (is_none-None (refusal_of t (call.Finish v)) e) in
-      let w = waits-only t u waits in
-      let vu : same_task v u ≡ false = not_hungry t v u Eating eating w.hungry eats in
-      let last : Diner = record { task = v; state = Thinking } in
-      let calm : list_any (is_in Hungry t.order) (neighbours_of t v) ≡ false = none-counted (is_in Hungry t.order) (neighbours_of t v) (rw e at none) in
-      let off : list_any (same_task v) (neighbours_of t u) ≡ false = no_neighbour t v u (sym (same_task-sym v u) ∙ vu) w.hungry calm in
-      let t' : Table = record t { order = moved_last v t.order; clock = t.clock + 1 } in
-      rw e (waits-if t' u
-      (state_in-append_other (without v t.order) last u vu ∙ state_in-without_other v u t.order vu ∙ w.hungry)
-      (any-but (keeps_waiting t.order u) (keeps_waiting t'.order u) v (neighbours_of t u) (λ x vx keeps. keeps-finished t.order v u x vu vx ∙ keeps) off w.kept))
+      rw e (finished-waits t v u eating waits (rw e at none))
 ]
+unended-waits t (call.Withdraw v) u waits none = elim (cases_Bool (is_none (refusal_of t (call.Withdraw v)))) [
+  | inr e ↦ rw e waits
+  | inl e ↦
+      let parts = or_parts (same_task v u) (are_in_conflict t v u) (rw e at none) in
+      rw e (withdrawn-waits t v u waits parts.0 parts.1)
+]
+unended-waits t (call.Separate v w) u waits none = elim (cases_Bool (is_none (refusal_of t (call.Separate v w)))) [
+  | inr e ↦ rw e waits
+  | inl e ↦
+      let parts = or_parts (same_task v u) (same_task w u) none in
+      rw e (separated-waits t v w u waits parts.0 parts.1)
+]
+unended-waits t call.Join u waits none = waits-join t u waits
+unended-waits t (call.Leave v) u waits none = waits-leave t v u waits
+unended-waits t (call.Conflict v w) u waits none = waits-conflict t v w u waits
+unended-waits t (call.Hungry v) u waits none = waits-hungry t v u waits
+unended-waits t (call.Begin v) u waits none = waits-begin t v u waits
 
--- ---- any call
+-- so all do who had to wait
+pub all-but : (t : Table) (c : Call) (others : List Await) → AllWait t others → AllWaitBut (table_after_call t c) c others
+all-but t c [] all = tt
+all-but t c (a ∷ others) all = (λ none. unended-waits t c a.task all.0 none, all-but t c others all.1)
 
 -- a call that isn't done, and would be if it were accepted, was refused
 unaccepted : (t : Table) (c : Call) (o : Option Refusal) → refusal_of t c ≡ o → acceptance_of t c ≡ Done → is_done (reply_of t c) ≡ false → is_accepted (reply_of t c) ≡ false
@@ -97,24 +133,18 @@ unaccepted t c None is done none = absurd (let two : true ≡ false = sym (ap is
 unaccepted t c (Some refusal) is done none = rw is refl
 
 -- where a call can't have ended a wait, whoever waited waits on
-pub may_end-waits : (t : Table) (c : Call) → may_end_waits_by c (reply_of t c) (cost_of t c) ≡ false → (u : Task) → has_to_wait t u ≡ true → has_to_wait (table_after_call t c) u ≡ true
-may_end-waits t (call.Finish v) none u waits = waits-finish t v u (no_message (cost_of t (call.Finish v)) none) waits
-  where
-    no_message : (n : ℕ) → not (n == 0) ≡ false → n ≡ 0
-    no_message n h = grind (arith, nat_tests)
+pub may_end-waits : (t : Table) (c : Call) → may_end_waits c (reply_of t c) ≡ false → (u : Task) → has_to_wait t u ≡ true → has_to_wait (table_after_call t c) u ≡ true
 may_end-waits t call.Join none u waits = waits-join t u waits
 may_end-waits t (call.Leave v) none u waits = waits-leave t v u waits
 may_end-waits t (call.Conflict v w) none u waits = waits-conflict t v w u waits
-may_end-waits t (call.Hungry v) none u waits = not-ended t (call.Hungry v) refl u waits
-may_end-waits t (call.Begin v) none u waits = not-ended t (call.Begin v) refl u waits
+may_end-waits t (call.Hungry v) none u waits = waits-hungry t v u waits
+may_end-waits t (call.Begin v) none u waits = waits-begin t v u waits
 may_end-waits t (call.Separate v w) none u waits =
     not-ended t (call.Separate v w) (unaccepted t (call.Separate v w) (refusal_of t (call.Separate v w)) refl refl none) u waits
+may_end-waits t (call.Finish v) none u waits =
+    not-ended t (call.Finish v) (unaccepted t (call.Finish v) (refusal_of t (call.Finish v)) refl refl none) u waits
 may_end-waits t (call.Withdraw v) none u waits =
     not-ended t (call.Withdraw v) (unaccepted t (call.Withdraw v) (refusal_of t (call.Withdraw v)) refl refl none) u waits
-
--- so all who are noted do
-pub all-stay : (t : Table) (c : Call) (others : List Await) → may_end_waits_by c (reply_of t c) (cost_of t c) ≡ false → AllWait t others → AllWait (table_after_call t c) others
-all-stay t c others none all = all-wait-on t (table_after_call t c) others (may_end-waits t c none) all
 
 -- ---- nobody begins where all wait
 
@@ -150,19 +180,6 @@ none-begin true s all =
 pub nothing-said : (ends : Bool) (s : Broker) (out : List ℕ) → (ends ≡ true → AllWait s.table s.awaits) → out ≡ out ++ text_of_lines (map entry_text (begun_after ends s.table s.awaits))
 nothing-said false s out all = sym (append-nil out)
 nothing-said true s out all = rw (all-rest s.table s.awaits s.receipts (all refl)).none (sym (append-nil out))
-
--- ---- what a broker keeps true, after a call
-
--- those who were at rest are so after a call that ended no wait
-pub called-kept : (rest : Bool) (t : Table) (c : Call) (others : List Await) → IsKeptBroker rest t others → (AllWait t others → AllWait (table_after_call t c) others) → IsKeptBroker rest (table_after_call t c) others
-called-kept rest t c others kept stay = record {
-  all_wait = λ h. stay (kept.all_wait h);
-  ordered = λ h. in_order-called t c others (kept.all_wait h) (kept.ordered h);
-}
-
--- where none are tried again after the call, whoever waited waits on
-pub all-unretried : (t : Table) (c : Call) (others : List Await) → retries_waits c (reply_of t c) ≡ false → AllWait t others → AllWait (table_after_call t c) others
-all-unretried t c others none all = all-wait-on t (table_after_call t c) others (not-ended t c none) all
 
 -- where all have to wait after a call, it lets none go on
 pub called-resting : (s : Broker) (c : Call) → AllWait (table_after_call s.table c) s.awaits → after_making s c ≡ record s { table = table_after_call s.table c }

@@ -1,31 +1,7 @@
 -- Requests of the usual forms are what their whole lines ask for.
-use Rattle.std.proofs.Common.{◌≡◌, ℕ, ◌==◌, ◌-◌, Bool, ◌^◌, ◌<◌, ◌≤◌, true, false, ◌&&◌, nat_le, nat_lt, List, [], ◌∷◌, ◌++◌, length, map, take, drop, codes, decimal, Option, Some, None, Result, IsErr, Ok, inl, inr, refl, sym, ap, ◌∙◌, subst, append_assoc, append-nil, length-append, length-drop, arith, lit≤}
-use Rattle.std.proofs.lemmas.Bool.{and_parts, cases_Bool}
-use Rattle.std.proofs.lemmas.Bool.Decides.{nat_tests}
-use Rattle.std.proofs.lemmas.List.{take_all}
-use Rattle.std.proofs.lemmas.Result.{MatchResult-from_err}
-use Rattle.std.specs.Borrow.{Bor}
-use Rattle.std.specs.Char.{is_ascii_digit}
-use Rattle.dine_words.specs.declared.call_word.CallOnOne.{CallOnOne}
+use Rattle.dine_serve.proofs.Words.{◌≡◌, ℕ, ◌==◌, ◌-◌, Bool, ◌^◌, ◌<◌, ◌≤◌, true, false, ◌&&◌, nat_le, nat_lt, List, [], ◌∷◌, ◌++◌, length, map, take, drop, codes, decimal, Option, Some, None, Result, IsErr, Ok, inl, inr, refl, sym, ap, ◌∙◌, subst, append_assoc, append-nil, length-append, length-drop, arith, lit≤, and_parts, cases_Bool, nat_tests, take_all, MatchResult-from_err, Bor, is_ascii_digit, CallOnOne, Task, call_about_one, opening_on_one, begins_with_number, digits_after, number_at, task_at, word_at, FitsTask, task_text, text_of_lines, bind-Some, number_at-Some, number_at-decimal, task_at-Some, task_at-text, word_at-Some, begun_line, ended_lines, seen_lines, seen_of, IsShort, begun-on, begun-pieces, ended-pieces, short-both, short-decimal, short-more, short-task, is_blank, is_passed_over, pieces_of, words_of, Deed, Make, Cancel, Request, Numbered, Order, StopsAtReading, deed_of, numbered_by, numbered_request, order_at, pass_at, reading_of, request_by, request_of, spaced_at, Broker, after_reading, counted, said_to, AnswersFirst, Asks, AsksDeed, StopsAtFirst, TakesFirst}
 use Rattle.dine_words.specs.declared.call_word.CallOnOne.TheVariants as one
-use Rattle.dine_words.specs.declared.task.Task.{Task}
-use Rattle.dine_words.specs.CallWords.{call_about_one, opening_on_one}
-use Rattle.dine_words.specs.Reading.{begins_with_number, digits_after, number_at, task_at, word_at}
-use Rattle.dine_words.specs.Texts.{FitsTask, task_text, text_of_lines}
-use Rattle.dine_words.proofs.CallerLemmas.{bind-Some, number_at-Some, number_at-decimal}
-use Rattle.dine_words.proofs.Spelling.{task_at-Some, task_at-text}
-use Rattle.dine_words.proofs.Words.{word_at-Some}
-use Rattle.dine_streams.specs.Lines.{begun_line, ended_lines, seen_lines, seen_of}
-use Rattle.dine_streams.proofs.CallerLemmas.{IsShort, begun-on, begun-pieces, ended-pieces, short-both, short-decimal, short-more, short-task}
-use Rattle.dine_lines.specs.Lines.{is_blank, is_passed_over, pieces_of, words_of}
-use Rattle.dine_serve.specs.declared.request.Deed.{Deed}
-use Rattle.dine_serve.specs.declared.request.Deed.TheVariants.{Make, Await as await, Cancel}
-use Rattle.dine_serve.specs.declared.request.Request.{Request}
-use Rattle.dine_serve.specs.declared.request.Request.TheVariants.{Numbered, Order}
-use Rattle.dine_serve.specs.Partly.{StopsAtReading}
-use Rattle.dine_serve.specs.Requests.{deed_of, numbered_by, numbered_request, order_at, pass_at, reading_of, request_by, request_of, spaced_at}
-use Rattle.dine_serve.specs.Serving.{Broker, after_reading, counted, said_to}
-use Rattle.dine_serve.specs.UsualForms.{AnswersFirst, HasFirst, IsAbout, StopsAtFirst, TakesFirst}
+use Rattle.dine_serve.specs.declared.request.Deed.TheVariants.{Await as await}
 
 -- ---- a line that begins with a number
 
@@ -83,12 +59,6 @@ numbered-is numbered pass number deed body have low wants =
 
 -- ---- its line
 
--- the first line of a text, and what it asks for
-pub record Asks (numbered : Bool) (request : Request) (text rest : List ℕ) : Type 0 where
-  pub line : List ℕ
-  pub first : HasFirst text (Some line) rest
-  pub reading : reading_of numbered (Some line) ≡ Ok (Some request)
-
 -- a pass, and what it wants done
 module _ (numbered : Bool) (pass : ℕ) (request : Request) (body text rest : List ℕ) (low : pass ≤ 2 ^ 32 - 1) (short : IsShort 71 body) (wants : order_at numbered pass body ≡ Some request) (is : text ≡ decimal pass ++ (32 ∷ (body ++ (10 ∷ rest)))) where
   -- the line
@@ -136,14 +106,18 @@ module _ (numbered : Bool) (pass : ℕ) (request : Request) (body text rest : Li
 
 -- ---- as it is read from the front of a text
 
--- an opening and a task that were read one after the other
-pub about-is : (opening : List ℕ) (u : Task) (bytes behind ended : List ℕ) → bytes ≡ opening ++ behind → task_at behind ≡ Some (u, ended) → ended ≡ 10 ∷ drop 1 ended → IsAbout opening u bytes (take (length ended - 1) (drop 1 ended))
-about-is opening u bytes behind ended front task ends =
+-- an opening and a task that were read one after the other are a line, where that wants this done
+pub about-is : (opening : List ℕ) (u : Task) (deed : Deed) (bytes behind ended : List ℕ) → IsShort 9 opening → (FitsTask u → deed_of (opening ++ task_text u) ≡ Some deed) → bytes ≡ opening ++ behind → task_at behind ≡ Some (u, ended) → ended ≡ 10 ∷ drop 1 ended → AsksDeed deed bytes (take (length ended - 1) (drop 1 ended))
+about-is opening u deed bytes behind ended few wants front task ends =
     let told = task_at-Some behind ended u task in
     let all : take (length ended - 1) (drop 1 ended) ≡ drop 1 ended = take_all (length ended - 1) (drop 1 ended) (omega (arith, length-drop 1 ended)) in
+    let short = short-both 9 41 opening (task_text u) few (short-task u told.0) in
     record {
-      fits = told.0;
-      text = front ∙ ap (λ l. opening ++ l) (told.1 ∙ ap (λ l. task_text u ++ l) (ends ∙ ap (λ l. 10 ∷ l) (sym all)));
+      line = opening ++ task_text u;
+      text = front ∙ ap (λ l. opening ++ l) (told.1 ∙ ap (λ l. task_text u ++ l) (ends ∙ ap (λ l. 10 ∷ l) (sym all))) ∙ sym (append_assoc opening (task_text u) (10 ∷ take (length ended - 1) (drop 1 ended)));
+      one = short.one;
+      short = short.short;
+      wants = wants told.0;
     }
 
 -- a number and a space that were read, and what comes after them
@@ -158,31 +132,24 @@ spaced-is most text asked n small h =
     let low : number.0 ≤ most = found.bound in
     (subst (λ k. k ≤ most) who low, found.text ∙ ap (λ l. decimal number.0 ++ l) (word_at-Some (codes " ") number.1 space at_space) ∙ ap (λ k. decimal k ++ (32 ∷ space)) who ∙ ap (λ l. decimal n ++ (32 ∷ l)) what)
 
--- an opening and a task are short
-short-about : (opening : List ℕ) (u : Task) → IsShort 9 opening → FitsTask u → IsShort 50 (opening ++ task_text u)
-short-about opening u few fits = short-both 9 41 opening (task_text u) few (short-task u fits)
-
 -- a request of a usual form at the front of a text is what its first line asks for, where requests have no numbers
-pub usual-asks : (numbered : Bool) (opening : List ℕ) (u : Task) (pass : ℕ) (deed : Deed) (text asked rest : List ℕ) → numbered ≡ false → IsShort 9 opening → (FitsTask u → deed_of (opening ++ task_text u) ≡ Some deed) → pass_at text ≡ Some (pass, asked) → IsAbout opening u asked rest → Asks numbered (Order pass deed) text rest
-usual-asks numbered opening u pass deed text asked rest none few wants front about =
+pub order-asks : (numbered : Bool) (pass : ℕ) (deed : Deed) (text asked rest : List ℕ) → numbered ≡ false → pass_at text ≡ Some (pass, asked) → AsksDeed deed asked rest → Asks numbered (Order pass deed) text rest
+order-asks numbered pass deed text asked rest none front wants =
     let told = spaced-is (2 ^ 32 - 1) text asked pass (omega arith) front in
-    let apart : opening ++ (task_text u ++ (10 ∷ rest)) ≡ (opening ++ task_text u) ++ (10 ∷ rest) = sym (append_assoc opening (task_text u) (10 ∷ rest)) in
-    asks numbered pass (Order pass deed) (opening ++ task_text u) text rest told.0 (short-more 50 71 _ (lit≤ tt) (short-about opening u few about.fits)) (order-is numbered pass deed (opening ++ task_text u) none (wants about.fits))
-    (told.1 ∙ ap (λ l. decimal pass ++ (32 ∷ l)) (about.text ∙ apart))
+    asks numbered pass (Order pass deed) wants.line text rest told.0 (short-more 50 71 _ (lit≤ tt) record { one = wants.one; short = wants.short }) (order-is numbered pass deed wants.line none wants.wants)
+    (told.1 ∙ ap (λ l. decimal pass ++ (32 ∷ l)) wants.text)
 
 -- so is one that has a number, where they have them
-pub numbered-asks : (numbered : Bool) (opening : List ℕ) (u : Task) (pass number : ℕ) (deed : Deed) (text behind asked rest : List ℕ) → numbered ≡ true → IsShort 9 opening → (FitsTask u → deed_of (opening ++ task_text u) ≡ Some deed) → pass_at text ≡ Some (pass, behind) → spaced_at (2 ^ 64 - 1) behind ≡ Some (number, asked) → IsAbout opening u asked rest → Asks numbered (Numbered pass number deed) text rest
-numbered-asks numbered opening u pass number deed text behind asked rest have few wants front next about =
+pub numbered-asks : (numbered : Bool) (pass number : ℕ) (deed : Deed) (text behind asked rest : List ℕ) → numbered ≡ true → pass_at text ≡ Some (pass, behind) → spaced_at (2 ^ 64 - 1) behind ≡ Some (number, asked) → AsksDeed deed asked rest → Asks numbered (Numbered pass number deed) text rest
+numbered-asks numbered pass number deed text behind asked rest have front next wants =
     let told = spaced-is (2 ^ 32 - 1) text behind pass (omega arith) front in
     let tells = spaced-is (2 ^ 64 - 1) behind asked number (omega arith) next in
-    let body = opening ++ task_text u in
     let low : number ≤ 2 ^ 64 - 1 = tells.0 in
-    let apart : opening ++ (task_text u ++ (10 ∷ rest)) ≡ body ++ (10 ∷ rest) = sym (append_assoc opening (task_text u) (10 ∷ rest)) in
-    let together : decimal number ++ (32 ∷ (body ++ (10 ∷ rest))) ≡ (decimal number ++ (32 ∷ body)) ++ (10 ∷ rest) = sym (append_assoc (decimal number) (32 ∷ body) (10 ∷ rest)) in
-    asks numbered pass (Numbered pass number deed) (decimal number ++ (32 ∷ body)) text rest told.0
-    (short-both 20 51 (decimal number) (32 ∷ body) (short-decimal number (omega arith)) (short-both 1 50 (32 ∷ []) body record { one = refl; short = lit≤ tt } (short-about opening u few about.fits)))
-    (numbered-is numbered pass number deed body have low (wants about.fits))
-    (told.1 ∙ ap (λ l. decimal pass ++ (32 ∷ l)) (tells.1 ∙ ap (λ l. decimal number ++ (32 ∷ l)) (about.text ∙ apart) ∙ together))
+    let together : decimal number ++ (32 ∷ (wants.line ++ (10 ∷ rest))) ≡ (decimal number ++ (32 ∷ wants.line)) ++ (10 ∷ rest) = sym (append_assoc (decimal number) (32 ∷ wants.line) (10 ∷ rest)) in
+    asks numbered pass (Numbered pass number deed) (decimal number ++ (32 ∷ wants.line)) text rest told.0
+    (short-both 20 51 (decimal number) (32 ∷ wants.line) (short-decimal number (omega arith)) (short-both 1 50 (32 ∷ []) wants.line record { one = refl; short = lit≤ tt } record { one = wants.one; short = wants.short }))
+    (numbered-is numbered pass number deed wants.line have low wants.wants)
+    (told.1 ∙ ap (λ l. decimal pass ++ (32 ∷ l)) (tells.1 ∙ ap (λ l. decimal number ++ (32 ∷ l)) wants.text ∙ together))
 
 -- ---- it is answered, after its line was counted
 

@@ -1,30 +1,6 @@
 -- Whoever has to wait waits on while others grow hungry or begin, and after each line all who are noted have to wait.
-use Rattle.std.proofs.Common.{◌≡◌, ℕ, ◌+◌, Bool, true, false, List, [], ◌∷◌, Option, Some, None, is_some, is_none, inl, inr, Result, Ok, Err, refl, sym, ap, ◌∙◌, subst, arith}
-use Rattle.std.specs.List.{list_any}
-use Rattle.std.proofs.lemmas.Bool.{cases_Bool}
-use Rattle.dine_words.specs.declared.call.Call.{Call}
+use Rattle.dine_serve.proofs.Words.{◌≡◌, ℕ, ◌+◌, Bool, true, false, List, [], ◌∷◌, Option, Some, None, is_some, is_none, inl, inr, refl, sym, ap, ◌∙◌, subst, arith, list_any, cases_Bool, Call, Refusal, Diner, State, Thinking, Hungry, Eating, Task, Table, keeps_waiting, neighbours_of, same_task, stands_before, state_in, state_of, acceptance_of, has_to_wait, refusal_of, refusal_unless, reply_of, table_after_call, with_state, found, or_else-None, same_task-true, stands_before-with_state, state_in-with_state_other, state_in-with_state_same, Await, AllWait, awaits_of, begins_of, begun_from, is_await_of, noted, retries_waits, still_waiting, table_begun, taken_back}
 use Rattle.dine_words.specs.declared.call.Call.TheVariants as call
-use Rattle.dine_words.specs.declared.call.Refusal.{Refusal}
-use Rattle.dine_words.specs.declared.task.Diner.{Diner}
-use Rattle.dine_words.specs.declared.task.State.{State}
-use Rattle.dine_words.specs.declared.task.State.TheVariants.{Thinking, Hungry, Eating}
-use Rattle.dine_words.specs.declared.task.Task.{Task}
-use Rattle.dine_table.specs.Table.{Table, keeps_waiting, neighbours_of, same_task, stands_before, state_in, state_of}
-use Rattle.dine_table.specs.Calls.{acceptance_of, has_to_wait, refusal_of, refusal_unless, reply_of, table_after_call, with_state}
-use Rattle.dine_table.proofs.CallerLemmas.{found, or_else-None, same_task-true, stands_before-with_state, state_in-with_state_other, state_in-with_state_same}
-use Rattle.dine_serve.specs.declared.awaits.Await.{Await}
-use Rattle.dine_serve.specs.declared.request_fault.LineFault.{LineFault}
-use Rattle.dine_serve.specs.declared.request.Deed.{Deed}
-use Rattle.dine_serve.specs.declared.request.Deed.TheVariants.{Make, Await as await, Cancel}
-use Rattle.dine_serve.specs.declared.request.Request.{Request}
-use Rattle.dine_serve.specs.declared.request.Request.TheVariants.{Ask, Order, Numbered}
-use Rattle.dine_serve.specs.declared.receipts.RequestAnswer.{RequestAnswer}
-use Rattle.dine_serve.specs.declared.receipts.Coming.{Coming}
-use Rattle.dine_serve.specs.declared.receipts.Coming.TheVariants.{First, Again, Stale, Foreign}
-use Rattle.dine_serve.specs.Receipts.{coming_of}
-use Rattle.dine_serve.specs.Requests.{reading_of}
-use Rattle.dine_serve.specs.Serving.{Broker, after_coming, after_deed, after_making, after_reading, answer_done, counted, retries_after, is_full, received, standing_from}
-use Rattle.dine_serve.specs.Waits.{AllWait, awaits_of, begins_of, begun_from, is_await_of, noted, retries_waits, still_waiting, table_after_begins, table_begun, taken_back, waiting_after}
 
 -- ---- who has to wait
 
@@ -184,51 +160,6 @@ not-ended t (call.Conflict v w) no_end u waits = stays t (call.Conflict v w) u (
 not-ended t (call.Separate v w) no_end u waits = stays t (call.Separate v w) u (other_call t (call.Separate v w) (refusal_of t (call.Separate v w)) refl refl no_end) waits
 not-ended t (call.Finish v) no_end u waits = stays t (call.Finish v) u (other_call t (call.Finish v) (refusal_of t (call.Finish v)) refl refl no_end) waits
 not-ended t (call.Withdraw v) no_end u waits = stays t (call.Withdraw v) u (other_call t (call.Withdraw v) (refusal_of t (call.Withdraw v)) refl refl no_end) waits
-
--- all who are noted have to wait after a call and the begins that it lets go on
-all-wait-made : (s : Broker) (c : Call) → AllWait s.table s.awaits → AllWait (after_making s c).table (after_making s c).awaits
-all-wait-made s c all = by (retries_after s c) refl
-  where
-    by : (ends : Bool) → retries_after s c ≡ ends → AllWait (table_after_begins ends (table_after_call s.table c) s.awaits) (waiting_after ends (table_after_call s.table c) s.awaits)
-    by true is = all-left-wait (table_after_call s.table c) s.awaits
-    by false is = all-wait-on s.table (table_after_call s.table c) s.awaits (not-ended s.table c is) all
-
--- and after a request
-all-wait-done : (s : Broker) (pass number : ℕ) (deed : Deed) → AllWait s.table s.awaits → AllWait (after_deed s pass number deed).table (after_deed s pass number deed).awaits
-all-wait-done s pass number (Make c) all = all-wait-made s c all
-all-wait-done s pass number (Cancel u) all = all-others-wait s.table pass u s.awaits all
-all-wait-done s pass number (await u) all = elim (cases_Bool (has_to_wait s.table u)) [
-  | inl e ↦ rw e (elim (cases_Bool (is_full s)) [
-    | inl f ↦ rw f all
-    | inr f ↦ rw f (all-noted-wait s.table s.table.order record { pass = pass; task = u; number = number } s.awaits e all)
-  ])
-  | inr e ↦ rw e (all-wait-made s (call.Begin u) all)
-]
-
--- and after a receipt
-all-wait-received : (s : Broker) (pass number : ℕ) (answer : Option RequestAnswer) → AllWait s.table s.awaits → AllWait (received pass number answer s).table (received pass number answer s).awaits
-all-wait-received s pass number None all = all
-all-wait-received s pass number (Some answer) all = all
-
--- and after a request with a number, however it comes
-all-wait-coming : (s : Broker) (pass number : ℕ) (deed : Deed) (coming : Coming) → AllWait s.table s.awaits → AllWait (after_coming s pass number deed coming).table (after_coming s pass number deed coming).awaits
-all-wait-coming s pass number deed First all = all-wait-received (after_deed s pass number deed) pass number (answer_done s pass deed) (all-wait-done s pass number deed all)
-all-wait-coming s pass number deed (Again answer) all = all
-all-wait-coming s pass number deed Stale all = all
-all-wait-coming s pass number deed Foreign all = all
-
--- and after a line
-pub all-wait-read : (s : Broker) (r : Result (Option Request) LineFault) → AllWait s.table s.awaits → AllWait (after_reading s r).table (after_reading s r).awaits
-all-wait-read s (Ok None) all = all
-all-wait-read s (Ok (Some (Ask question))) all = all
-all-wait-read s (Ok (Some (Order pass deed))) all = all-wait-done s pass 0 deed all
-all-wait-read s (Ok (Some (Numbered pass number deed))) all = all-wait-coming s pass number deed (coming_of s.receipts pass number) all
-all-wait-read s (Err fault) all = all
-
--- and after all lines
-pub all-wait : (s : Broker) (lines : List (Option (List ℕ))) → AllWait s.table s.awaits → AllWait (standing_from s lines).table (standing_from s lines).awaits
-all-wait s [] all = all
-all-wait s (line ∷ lines) all = all-wait (after_reading (counted s) (reading_of s.is_numbered line)) lines (all-wait-read (counted s) (reading_of s.is_numbered line) all)
 
 -- ---- how often
 

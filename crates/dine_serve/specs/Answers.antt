@@ -1,25 +1,23 @@
 -- The texts of answers.
-use Rattle.std.specs.Prelude.{ℕ, Bool, true, false, List, [], ◌∷◌, ◌++◌, codes, decimal}
-use Rattle.dine_words.specs.declared.call.Call.{Call}
-use Rattle.dine_words.specs.declared.entry.Entry.{Entry}
-use Rattle.dine_words.specs.declared.task.Task.{Task}
-use Rattle.dine_table.specs.Table.{Table, state_of, next_ready_of, neighbours_if_present}
-use Rattle.dine_table.specs.Calls.{reply_of}
-use Rattle.dine_words.specs.Texts.{entry_text, task_text}
-use Rattle.dine_lines.specs.Answers.{state_or_none, task_or_none, tasks_or_none}
-use Rattle.dine_serve.specs.declared.request_fault.LineFault.{LineFault}
+use Rattle.std.specs.Prelude.{ℕ, Bool, true, false, List, [], ◌∷◌, ◌++◌, codes, decimal, Option, Some, None}
+use Rattle.dine_serve.specs.Words.{Call, Entry, Task, Table, state_of, next_ready_of, neighbours_if_present, blockers_if_present, ready_of, reply_of, entry_text, task_text, state_or_none, task_or_none, tasks_or_none, LineFault, RequestAnswer, Made, Cancelled, Waits, Question}
 use Rattle.dine_serve.specs.declared.request_fault.LineFault.TheVariants as fault
-use Rattle.dine_serve.specs.declared.receipts.RequestAnswer.{RequestAnswer}
-use Rattle.dine_serve.specs.declared.receipts.RequestAnswer.TheVariants.{Made, Cancelled, Waits}
-use Rattle.dine_serve.specs.declared.request.Question.{Question}
 use Rattle.dine_serve.specs.declared.request.Question.TheVariants as question
 
 -- ---- what a question is answered
+
+-- a space and a name for each task, or that there is none
+abbrev pub listed_or_none : Option (List Task) → List ℕ
+listed_or_none None = codes " none"
+listed_or_none (Some []) = codes " none"
+listed_or_none (Some (t ∷ ts)) = tasks_or_none (Some (t ∷ ts))
 
 -- the answer to a question, in a table
 abbrev pub answer_of : Table → Question → List ℕ
 answer_of table (question.State t) = codes "state " ++ state_or_none (state_of table t)
 answer_of table (question.Neighbours t) = codes "neighbours" ++ tasks_or_none (neighbours_if_present table t)
+answer_of table (question.Blockers t) = codes "blockers" ++ listed_or_none (blockers_if_present table t)
+answer_of table question.Ready = codes "ready" ++ listed_or_none (Some (ready_of table))
 answer_of table question.Next = codes "next " ++ task_or_none (next_ready_of table)
 
 -- its line, which a filter knows by its first byte

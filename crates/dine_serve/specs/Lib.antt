@@ -1,8 +1,9 @@
+pub mod Words
 pub mod Requests
 pub mod Receipts
 pub mod Answers
 pub mod Waits
-pub mod Beside
+pub mod Queues
 pub mod Serving
 pub mod Partly
 pub mod Repeats

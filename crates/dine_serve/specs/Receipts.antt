@@ -1,11 +1,6 @@
 -- What each pass asked last, where requests are numbered, and what it was answered.
 use Rattle.std.specs.Prelude.{ℕ, min, nat_lt, ◌==◌, Bool, false, if◌then◌else◌, List, [], replicate, slice_get, slice_set, Option, Some, None}
-use Rattle.dine_words.specs.declared.entry.Entry.{Entry}
-use Rattle.dine_serve.specs.declared.awaits.Await.{Await}
-use Rattle.dine_serve.specs.declared.receipts.RequestAnswer.TheVariants.{Made}
-use Rattle.dine_serve.specs.declared.receipts.Coming.{Coming}
-use Rattle.dine_serve.specs.declared.receipts.Coming.TheVariants.{First, Again, Stale, Foreign}
-use Rattle.dine_serve.specs.declared.receipts.Receipt.{Receipt}
+use Rattle.dine_serve.specs.Words.{Entry, Await, Made, Coming, First, Again, Stale, Foreign, Receipt}
 
 -- the most passes that can number their requests
 abbrev pub most_numbered_passes : ℕ
@@ -42,9 +37,14 @@ has_number None number = false
 has_number (Some None) number = false
 has_number (Some (Some last)) number = last.number == number
 
+-- the receipt of its pass is this, if the pass has asked for no more than the request with this number
+abbrev pub settled_by : Option ℕ → List (Option Receipt) → ℕ → Entry → List (Option Receipt)
+settled_by None receipts pass e = receipts
+settled_by (Some number) receipts pass e =
+    if has_number (slice_get receipts pass) number
+    then slice_set receipts pass (Some record { number = number; answer = Made e })
+    else receipts
+
 -- its entry is on the receipt of its pass, unless the pass has asked for more since
 abbrev pub settled : List (Option Receipt) → Await → Entry → List (Option Receipt)
-settled receipts a e =
-    if has_number (slice_get receipts a.pass) a.number
-    then slice_set receipts a.pass (Some record { number = a.number; answer = Made e })
-    else receipts
+settled receipts a e = settled_by a.number receipts a.pass e

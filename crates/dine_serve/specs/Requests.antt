@@ -1,18 +1,8 @@
 -- What a line asks for.
 use Rattle.std.specs.Prelude.{ℕ, ◌-◌, ◌^◌, Bool, true, false, if◌then◌else◌, List, [], ◌∷◌, codes, Option, Some, None, option_map, Result, Ok, Err}
 use Rattle.std.specs.Str.{bytes_eq}
-use Rattle.dine_words.specs.declared.call.Call.{Call}
-use Rattle.dine_words.specs.Reading.{◌>>=◌, after_or, call_at, number_at, task_at, whole, word_at}
-use Rattle.dine_words.specs.Versions.{written_version}
-use Rattle.dine_lines.specs.Lines.{is_passed_over, words_of}
-use Rattle.dine_serve.specs.declared.request_fault.LineFault.{LineFault}
-use Rattle.dine_serve.specs.declared.request_fault.LineFault.TheVariants.{Words}
-use Rattle.dine_serve.specs.declared.request.Question.{Question}
-use Rattle.dine_serve.specs.declared.request.Question.TheVariants.{State, Neighbours, Next}
-use Rattle.dine_serve.specs.declared.request.Request.{Request}
-use Rattle.dine_serve.specs.declared.request.Request.TheVariants.{Ask, Order, Numbered}
-use Rattle.dine_serve.specs.declared.request.Deed.{Deed}
-use Rattle.dine_serve.specs.declared.request.Deed.TheVariants.{Make, Await, Cancel}
+use Rattle.dine_serve.specs.Words.{Call, ◌>>=◌, after_or, call_at, number_at, task_at, whole, word_at, written_version, is_passed_over, words_of, LineFault, Words, Question, State, Neighbours, Blockers, Next, Ready, Request, Ask, Order, Numbered, Deed, Make, Cancel}
+use Rattle.dine_serve.specs.declared.request.Deed.TheVariants.{Await}
 
 -- a number up to this one and a space, and what comes after them
 abbrev pub spaced_at : ℕ → List ℕ → Option (ℕ × List ℕ)
@@ -25,12 +15,13 @@ spaced_at most bytes = do
 abbrev pub pass_at : List ℕ → Option (ℕ × List ℕ)
 pass_at line = spaced_at (2 ^ 32 - 1) line
 
--- a question: `state` or `neighbours` and a task, or `next`
+-- a question: `state`, `neighbours` or `blockers` and a task, or `next` or `ready`
 abbrev pub question_of : List ℕ → Option Question
 question_of line =
     after_or (word_at (codes "state ") line) (λ rest. option_map State (whole (task_at rest)))
     (after_or (word_at (codes "neighbours ") line) (λ rest. option_map Neighbours (whole (task_at rest)))
-    (if bytes_eq line (codes "next") then Some Next else None))
+    (after_or (word_at (codes "blockers ") line) (λ rest. option_map Blockers (whole (task_at rest)))
+    (if bytes_eq line (codes "next") then Some Next else (if bytes_eq line (codes "ready") then Some Ready else None))))
 
 -- a question, as a request
 abbrev pub ask_request : Option Question → Option Request

@@ -1,26 +1,9 @@
 -- What is said to the lines that are heard, one after the other.
 use Rattle.std.specs.Prelude.{ℕ, nat_le, ◌+◌, ◌-◌, ◌^◌, ◌<◌, Bool, true, false, ◌||◌, if◌then◌else◌, length, List, [], ◌∷◌, ◌++◌, map, slice_set, Option, Some, None, is_some, Result, Ok, Err}
-use Rattle.dine_words.specs.declared.call.Call.{Call}
-use Rattle.dine_words.specs.declared.entry.Entry.{Entry}
-use Rattle.dine_words.specs.declared.limits.Limits.{Limits}
-use Rattle.dine_table.specs.Table.{Table, opening_table}
+use Rattle.dine_serve.specs.Words.{Call, Entry, Limits, Table, opening_table, has_to_wait, reply_of, table_after_call, entry_text, header_text, written_version, begun_line, seen_lines, LineFault, Await, Deed, Make, Cancel, Request, Ask, Order, Numbered, RequestAnswer, Made, Cancelled, Waits, Coming, First, Again, Stale, Foreign, Receipt}
 use Rattle.dine_words.specs.declared.call.Call.TheVariants as call
-use Rattle.dine_table.specs.Calls.{has_to_wait, reply_of, table_after_call}
-use Rattle.dine_words.specs.Texts.{entry_text, header_text}
-use Rattle.dine_words.specs.Versions.{written_version}
-use Rattle.dine_streams.specs.Lines.{begun_line, seen_lines}
-use Rattle.dine_serve.specs.declared.request_fault.LineFault.{LineFault}
-use Rattle.dine_serve.specs.declared.awaits.Await.{Await}
 use Rattle.dine_serve.specs.declared.request_fault.LineFault.TheVariants as fault
-use Rattle.dine_serve.specs.declared.request.Deed.{Deed}
-use Rattle.dine_serve.specs.declared.request.Deed.TheVariants.{Make, Await as await, Cancel}
-use Rattle.dine_serve.specs.declared.request.Request.{Request}
-use Rattle.dine_serve.specs.declared.request.Request.TheVariants.{Ask, Order, Numbered}
-use Rattle.dine_serve.specs.declared.receipts.RequestAnswer.{RequestAnswer}
-use Rattle.dine_serve.specs.declared.receipts.RequestAnswer.TheVariants.{Made, Cancelled, Waits}
-use Rattle.dine_serve.specs.declared.receipts.Coming.{Coming}
-use Rattle.dine_serve.specs.declared.receipts.Coming.TheVariants.{First, Again, Stale, Foreign}
-use Rattle.dine_serve.specs.declared.receipts.Receipt.{Receipt}
+use Rattle.dine_serve.specs.declared.request.Deed.TheVariants.{Await as await}
 use Rattle.dine_serve.specs.Answers.{again_lines, answer_line, cancelled_line, entry_in, fault_line}
 use Rattle.dine_serve.specs.Receipts.{coming_of, no_receipts}
 use Rattle.dine_serve.specs.Requests.{reading_of}
@@ -53,14 +36,18 @@ standing_at table passes =
 abbrev pub opening : Limits → Option ℕ → Broker
 opening limits passes = standing_at (opening_table limits) passes
 
--- no more lines, or no more joins and finishes, can be counted in 64 bits
+-- no more lines are taken: no more lines, or no more joins and finishes, can be counted in 64 bits
 abbrev pub has_no_room : Broker → Bool
 has_no_room s = nat_le (2 ^ 64 - 1) s.lines || nat_le (2 ^ 64 - 2) s.table.clock
 
--- one line more can be counted, and one join or finish more
+-- one join or finish more can be counted
+abbrev pub IsGoing : Broker → Type 0
+IsGoing s = s.table.clock < 2 ^ 64 - 2
+
+-- one line more can be counted too
 pub record HasRoom (s : Broker) : Type 0 where
   pub lines : s.lines < 2 ^ 64 - 1
-  pub clock : s.table.clock < 2 ^ 64 - 2
+  pub going : IsGoing s
 
 -- ---- one line
 
@@ -116,8 +103,8 @@ answer_done s pass (await u) =
     else Some (Made (entry_in s.table pass (call.Begin u)))
 answer_done s pass (Cancel u) = Some (Cancelled (is_noted pass u s.awaits) u)
 
--- where the broker stands after it, where the request has this number
-abbrev pub after_deed : Broker → ℕ → ℕ → Deed → Broker
+-- where the broker stands after it, where the request has this number or none
+abbrev pub after_deed : Broker → ℕ → Option ℕ → Deed → Broker
 after_deed s pass number (Make asked) = after_making s asked
 after_deed s pass number (await u) =
     if has_to_wait s.table u then
@@ -150,7 +137,7 @@ received pass number (Some answer) s =
 
 -- where the broker stands after it
 abbrev pub after_coming : Broker → ℕ → ℕ → Deed → Coming → Broker
-after_coming s pass number deed First = received pass number (answer_done s pass deed) (after_deed s pass number deed)
+after_coming s pass number deed First = received pass number (answer_done s pass deed) (after_deed s pass (Some number) deed)
 after_coming s pass number deed (Again answer) = s
 after_coming s pass number deed Stale = record s { has_fault = true }
 after_coming s pass number deed Foreign = record s { has_fault = true }
@@ -169,7 +156,7 @@ said_to s (Err found) = fault_line s.lines found ∷ []
 abbrev pub after_reading : Broker → Result (Option Request) LineFault → Broker
 after_reading s (Ok None) = s
 after_reading s (Ok (Some (Ask question))) = s
-after_reading s (Ok (Some (Order pass deed))) = after_deed s pass 0 deed
+after_reading s (Ok (Some (Order pass deed))) = after_deed s pass None deed
 after_reading s (Ok (Some (Numbered pass number deed))) =
     after_coming s pass number deed (coming_of s.receipts pass number)
 after_reading s (Err found) = record s { has_fault = true }

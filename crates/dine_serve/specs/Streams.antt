@@ -1,12 +1,7 @@
 -- What a service has answered of what it heard.
 use Rattle.std.specs.Prelude.{◌≡◌, ℕ, Bool, true, List, [], ◌++◌, Option, IfSome, Result, Err, IfOk, OnOk}
 use Rattle.std.specs.Io.KnownBytes.{Appends, Consumes}
-use Rattle.dine_words.specs.Texts.{text_of_lines}
-use Rattle.dine_streams.specs.declared.ended.CliFault.{CliFault}
-use Rattle.dine_streams.specs.declared.ended.CliFault.TheVariants.{Memory, Read, Write}
-use Rattle.dine_streams.specs.Lines.{seen_lines}
-use Rattle.dine_streams.specs.Marks.{IsMarked, WritesOnly}
-use Rattle.dine_streams.specs.Written.{AppendsLinesOf, AppendsPartOf}
+use Rattle.dine_serve.specs.Words.{text_of_lines, CliFault, Memory, Read, Write, seen_lines, IsMarked, WritesOnly, AppendsLinesOf, AppendsPartOf}
 use Rattle.dine_serve.specs.Serving.{Broker, said_from, said_to_input}
 
 -- some bytes were heard, and all answers owed to the whole lines among them are written, after the lines that came first

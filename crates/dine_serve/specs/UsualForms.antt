@@ -1,24 +1,31 @@
 -- Requests of the forms that nearly all have, at the front of a text, and what it is to answer the first line of one, or to
 -- stop at it.
+use Rattle.std.specs.Prelude.{◌≡◌, ℕ, ◌<◌, ◌≤◌, Bool, List, [], ◌∷◌, ◌++◌, length, MatchResult, Option, Some, Result, Ok}
 use Rattle.std.specs.Borrow.{Bor}
-use Rattle.std.specs.Prelude.{◌≡◌, ℕ, ◌<◌, List, [], ◌∷◌, ◌++◌, length, MatchResult, Option, Result}
-use Rattle.dine_words.specs.declared.task.Task.{Task}
-use Rattle.dine_words.specs.Texts.{FitsTask, task_text, text_of_lines}
-use Rattle.dine_streams.specs.Lines.{begun_line, seen_lines}
+use Rattle.dine_serve.specs.Words.{text_of_lines, begun_line, ended_lines, seen_lines, Deed, Request}
 use Rattle.dine_serve.specs.Partly.{StopsAtReading}
-use Rattle.dine_serve.specs.Requests.{reading_of}
+use Rattle.dine_serve.specs.Requests.{deed_of, reading_of}
 use Rattle.dine_serve.specs.Serving.{Broker, after_reading, counted, said_to}
-
--- the bytes are an opening and a task, with the line feed that ends them before the rest
-pub record IsAbout (opening : List ℕ) (u : Task) (bytes rest : List ℕ) : Type 0 where
-  pub fits : FitsTask u
-  pub text : bytes ≡ opening ++ (task_text u ++ (10 ∷ rest))
 
 -- a text has this line first, as it is seen, and the rest comes after it
 pub record HasFirst (text : List ℕ) (line : Option (List ℕ)) (rest : List ℕ) : Type 0 where
   pub seen : seen_lines [] text ≡ line ∷ seen_lines [] rest
   pub begun : begun_line [] rest ≡ begun_line [] text
   pub shorter : length rest < length text
+
+-- the first line of a text asks for this, and the rest comes after it
+pub record Asks (numbered : Bool) (request : Request) (text rest : List ℕ) : Type 0 where
+  pub line : List ℕ
+  pub first : HasFirst text (Some line) rest
+  pub reading : reading_of numbered (Some line) ≡ Ok (Some request)
+
+-- a short line that is nothing but what a pass wants done stands at the front of the bytes, and the rest comes after it
+pub record AsksDeed (deed : Deed) (bytes rest : List ℕ) : Type 0 where
+  pub line : List ℕ
+  pub text : bytes ≡ line ++ (10 ∷ rest)
+  pub one : ended_lines [] line ≡ []
+  pub short : length line ≤ 50
+  pub wants : deed_of line ≡ Some deed
 
 -- the first line of a text was answered, and the rest comes after it
 pub record AnswersFirst (s s' : Broker) (text rest before after : List ℕ) : Type 0 where

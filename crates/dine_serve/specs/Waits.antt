@@ -1,18 +1,7 @@
 -- Begins that wait until they would be answered otherwise than `not-yet`.
-use Rattle.std.specs.Prelude.{◌≡◌, ℕ, ◌==◌, ◌+◌, Bool, true, false, not, ◌&&◌, if◌then◌else◌, List, [], ◌∷◌, Option}
-use Rattle.dine_words.specs.declared.call.Call.{Call}
+use Rattle.std.specs.Prelude.{◌≡◌, ℕ, ◌==◌, ◌+◌, Bool, true, false, ◌&&◌, if◌then◌else◌, List, [], ◌∷◌, Option}
+use Rattle.dine_serve.specs.Words.{Call, Reply, Joined, Done, Refused, Entry, Diner, Task, Table, same_task, stands_before, has_to_wait, table_after_call, is_begin_of, Await, Receipt}
 use Rattle.dine_words.specs.declared.call.Call.TheVariants as call
-use Rattle.dine_words.specs.declared.call.Reply.{Reply}
-use Rattle.dine_words.specs.declared.call.Reply.TheVariants.{Joined, Done, Refused}
-use Rattle.dine_words.specs.declared.entry.Entry.{Entry}
-use Rattle.dine_words.specs.declared.task.Diner.{Diner}
-use Rattle.dine_words.specs.declared.task.Task.{Task}
-use Rattle.dine_words.specs.Waits.{may_end_waits}
-use Rattle.dine_table.specs.Table.{Table, same_task, stands_before}
-use Rattle.dine_table.specs.Calls.{has_to_wait, table_after_call}
-use Rattle.dine_table.specs.History.{is_begin_of}
-use Rattle.dine_serve.specs.declared.awaits.Await.{Await}
-use Rattle.dine_serve.specs.declared.receipts.Receipt.{Receipt}
 use Rattle.dine_serve.specs.Answers.{entry_in}
 use Rattle.dine_serve.specs.Receipts.{settled}
 
@@ -35,18 +24,6 @@ retries_waits (call.Hungry u) reply = false
 retries_waits (call.Begin u) reply = false
 retries_waits (call.Finish u) reply = is_accepted reply
 retries_waits (call.Withdraw u) reply = is_accepted reply
-
--- a wait may have ended by a call with this reply that sent so many messages. A meal that ends ends no wait where it sends
--- no fork. A newcomer, one who leaves, and a new conflict end none
-abbrev pub may_end_waits_by : Call → Reply → ℕ → Bool
-may_end_waits_by (call.Finish u) reply messages = not (messages == 0)
-may_end_waits_by call.Join reply messages = false
-may_end_waits_by (call.Leave u) reply messages = false
-may_end_waits_by (call.Conflict u v) reply messages = false
-may_end_waits_by (call.Separate u v) reply messages = may_end_waits (call.Separate u v) reply
-may_end_waits_by (call.Hungry u) reply messages = false
-may_end_waits_by (call.Begin u) reply messages = false
-may_end_waits_by (call.Withdraw u) reply messages = may_end_waits (call.Withdraw u) reply
 
 -- ---- the begins that wait, in the order of last meals
 
@@ -127,12 +104,6 @@ NoneBefore order u (a ∷ others) = (stands_before order a.task u ≡ false) × 
 abbrev pub InOrder : List Diner → List Await → Type 0
 InOrder order [] = Unit {0}
 InOrder order (a ∷ others) = NoneBefore order a.task others × InOrder order others
-
--- what a broker keeps true of the begins that wait: where it is at rest, as between two lines, each has to wait, and they
--- stand in order
-pub record IsKeptBroker (at_rest : Bool) (t : Table) (awaits : List Await) : Type 0 where
-  pub all_wait : at_rest ≡ true → AllWait t awaits
-  pub ordered : at_rest ≡ true → InOrder t.order awaits
 
 -- ---- after a call
 

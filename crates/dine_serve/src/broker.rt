@@ -1,83 +1,71 @@
 //! Where a broker stands, and what it answers to one line.
 
-ghost use Rattle.std.specs.Prelude.{◌≡◌, ◌<◌, ◌≤◌, ◌+◌, ◌-◌, ◌^◌, ◌∷◌, ◌++◌, [], map, Err, Ok, IfOk, OnErr, OnOk, Some, vec_capacity, vec_len};
+ghost use Rattle.std.specs.Prelude.{◌≡◌, ◌<◌, ◌≤◌, ◌+◌, ◌*◌, ◌-◌, ◌^◌, ◌∷◌, ◌++◌, [], length, map, Err, None, Ok, IfOk, OnErr, OnOk, Some, vec_capacity, vec_len};
 ghost use mathlib.Core.List.{IsPrefix};
-ghost use Rattle.dine_table.specs.Calls.{table_after_call};
-ghost use Rattle.dine_words.specs.Texts.{entry_text, text_of_lines};
 ghost use Rattle.dine_streams.specs.Handed.{handed};
+ghost use Rattle.dine_streams.specs.Lines.{begun_line};
+ghost use Rattle.dine_table.specs.Calls.{reply_of, table_after_call};
+ghost use Rattle.dine_words.specs.Texts.{entry_text, text_of_lines};
 ghost use Rattle.dine_serve.specs.Answers.{answer_line, answer_of, entry_in};
-ghost use Rattle.dine_serve.specs.Partly.{IsPartlyMade, StopsAtCall, StopsAtComing, StopsAtDeed, StopsAtReading};
+ghost use Rattle.dine_serve.specs.Partly.{IsUndone, StopsAtComing, StopsAtDeed, StopsAtReading};
 ghost use Rattle.dine_serve.specs.Receipts.{coming_of};
 ghost use Rattle.dine_serve.specs.Requests.{reading_of};
-ghost use Rattle.dine_serve.specs.Serving.{after_coming, after_deed, after_making, after_reading, answer_done, counted, entries_made, opening, received, said_coming, said_done, said_to, standing_at, HasRoom, has_no_room, is_full, retries_after};
+ghost use Rattle.dine_serve.specs.Serving.{IsGoing, after_coming, after_deed, after_making, after_reading, answer_done, counted, entries_made, opening, received, said_coming, said_done, said_to, standing_at, HasRoom, has_no_room, is_full, retries_after};
+ghost use Rattle.dine_serve.specs.UsualForms.{TakesFirst};
 ghost use Rattle.dine_serve.specs.Waits.{begun_after};
 
-mod front;
-
-use crate::answer_texts::{push_again, push_cancelled_line, push_fault_line, put_entry_line};
-use crate::awaits::{
-    Await, begin_waiting, has_to_wait, is_no_one, may_end_waits_by, note, retries_waits, take_back,
+use crate::answer_texts::{
+    push_again, push_cancelled_line, push_fault_line, push_line_and_room, push_listed,
 };
+use crate::awaits::{Await, begin_waiting, has_to_wait};
 use crate::receipts::{Coming, Receipt, RequestAnswer, coming_of, no_receipts, put};
 use crate::request::{Deed, Question, Request, read_line};
 use crate::request_fault::LineFault;
-use crate::row::AwaitRow;
-use crate::stretch::stretch_after;
+use crate::usual::usual_at;
+use crate::waiters::Waiters;
 use dine_arbiter::Arbiter;
 use dine_lines::{push_neighbours, push_next, push_state};
 use dine_streams::Line;
-use dine_words::{Call, Entry, Limits, MAX_ENTRY_LINE, Task};
+use dine_words::{Call, Entry, Limits, MAX_ENTRY_LINE, Reply, Task};
 use std::alloc::{AllocError, Global};
 use std::marker::Model;
-
-// What a request wants done: whose it is, and its number, or 0 where it has none.
-#[derive(Clone, Copy)]
-struct Order {
-    pass: u32,
-    number: u64,
-    deed: Deed,
-}
 
 // What a deed was answered: nothing where it had a fault. There may be no memory for the lines that answer it.
 type Answered = Result<Option<RequestAnswer>, AllocError>;
 
 /// Where serving stands: the arbiter of the calls that were made, the begins that wait, the last request of each pass where
-/// requests have numbers, and how many lines were heard. It keeps no other call, and takes no more memory however many lines
-/// come.
+/// requests have numbers, and how many lines were heard. It keeps no other call, and however many lines come it takes no
+/// more memory than for as many begins that wait as tasks may be present.
 #[derive(Drop)]
 pub struct Broker {
     alloc: Global,
     arbiter: Arbiter,
-    // In the order of last meals.
-    awaits: AwaitRow,
+    waiters: Waiters,
     // By pass.
     receipts: Vec<Option<Receipt>>,
     // Whether requests have numbers.
     is_numbered: bool,
     lines: u64,
     has_fault: bool,
-    // Whether each begin that waits has to wait, and they stand in the order of last meals. So it is between two lines,
-    // unless memory was wanting for the line of one that had to wait no longer.
-    is_at_rest: bool,
 }
 
 impl Model for Broker {
     ghost use Rattle.dine_serve.specs.Serving.{Broker as Standing};
-    ghost use Rattle.dine_serve.specs.Waits.{IsKeptBroker};
+    ghost use Rattle.dine_serve.specs.Queues.{IsKept, in_order};
 
     ghost Value = { Standing };
 
     ghost view = { λ broker. record {
       table = broker.arbiter.table;
-      awaits = broker.awaits;
+      awaits = in_order broker.arbiter.table.order broker.waiters.rows;
       receipts = broker.receipts.items;
       is_numbered = broker.is_numbered;
       lines = broker.lines;
       has_fault = broker.has_fault;
     } };
 
-    ghost invariant = { λ broker.
-        IsKeptBroker broker.is_at_rest broker.arbiter.table broker.awaits };
+    // Each begin that waits has to wait.
+    ghost invariant = { λ broker. IsKept broker.arbiter.table broker.waiters };
 }
 
 impl Broker {
@@ -96,7 +84,8 @@ impl Broker {
     }
 
     /// A broker that goes on with an arbiter, as [`Broker::new`]: it has heard no line, nobody waits, and no pass has
-    /// asked for anything. All memory is taken here, but for the lines that are answered. An error is want of memory.
+    /// asked for anything. All memory is taken here, but for begins that wait and for the lines that are answered. An error
+    /// is want of memory.
     pub fn going_on(
         alloc: Global,
         arbiter: Arbiter,
@@ -104,17 +93,17 @@ impl Broker {
     ) -> Result<Broker, AllocError>
         ensures { IfOk result (λ broker. broker ≡ standing_at arbiter.table passes) }
     {
-        let awaits = AwaitRow::with_room(alloc, arbiter.limits().tasks as usize)?;
+        // It isn't used: the question alone tells that the table is sound.
+        let _ = arbiter.book();
         let receipts = no_receipts(alloc, passes)?;
         Ok(Broker {
             alloc,
             arbiter,
-            awaits,
+            waiters: Waiters::new(alloc),
             receipts,
             is_numbered: passes.is_some(),
             lines: 0,
             has_fault: false,
-            is_at_rest: true,
         })
     }
 
@@ -125,7 +114,7 @@ impl Broker {
         self.has_fault
     }
 
-    /// Whether no more lines, or no more joins and finishes, can be counted in 64 bits.
+    /// Whether no more lines are taken: no more lines, or no more joins and finishes, can be counted in 64 bits.
     #[inline(always)]
     pub(crate) fn is_worn_out(&self) -> bool
         ensures { result ≡ has_no_room self.now }
@@ -133,14 +122,40 @@ impl Broker {
         u64::MAX <= self.lines || u64::MAX - 1 <= self.arbiter.clock()
     }
 
+    /// Answers the first line of a text that has whole lines alone, and gives the text after it. A request of a usual form
+    /// is read from the front of the text; every other line is cut off first, and read by its words.
+    ///
+    /// An error is want of memory, as in `take_line`.
+    #[inline(always)]
+    pub(crate) fn take_front<'a>(
+        &mut self,
+        text: &'a [u8],
+        out: &mut Vec<u8>,
+    ) -> Result<&'a [u8], AllocError>
+        requires room { HasRoom self.old }
+        requires some { 0 < length text.now }
+        requires whole { begun_line [] text.now ≡ [] }
+        ensures { TakesFirst result self.old self.new text.now out.old.items out.new.items }
+    {
+        let Some((request, rest)) = usual_at(text, self.is_numbered) else {
+            let Some((line, rest)) = Line::cut(text) else {
+                // A text of whole lines has one while it has a byte.
+                return Ok(&[]);
+            };
+            self.take_line(line, out)?;
+            return Ok(rest);
+        };
+        self.count();
+        self.take_request(request, out)?;
+        Ok(rest)
+    }
+
     /// Answers a line: what it asks for is done, and the lines that answer it are appended to `out`.
     ///
     /// An error is want of memory. The line is counted then, and a part of its answer may have been appended, behind what
-    /// stood there before. No call is made whose line isn't ([`each_call_has_its_line`](crate::each_call_has_its_line)):
-    /// without memory for that of the call that was asked for, it isn't made; without memory for that of a begin that has to
-    /// wait no longer, this one and those behind it wait on, until another call tries them again. A begin that was to be
-    /// taken back is.
-    #[inline(always)]
+    /// stood there before. If there is no memory for the lines of a call and of the begins after it, nothing is done and
+    /// nothing is appended. A begin that was to be taken back is.
+    #[inline(never)]
     pub(crate) fn take_line(&mut self, line: Line, out: &mut Vec<u8>) -> Result<(), AllocError>
         requires { HasRoom self.old }
         ensures after { OnOk result
@@ -152,8 +167,11 @@ impl Broker {
             (reading_of self.old.is_numbered (handed line.entry)) out.old.items out.new.items) }
     {
         self.count();
-        let reading = read_line(line, self.is_numbered);
-        self.take_reading(reading, out)
+        match read_line(line, self.is_numbered) {
+            Ok(None) => Ok(()),
+            Ok(Some(request)) => self.take_request(request, out),
+            Err(fault) => self.refuse(fault, out),
+        }
     }
 
     /// Answers a last line that has no line feed: it isn't carried out.
@@ -180,31 +198,10 @@ impl Broker {
         self.lines += 1;
     }
 
-    // Answers a line that was read so, and is counted already.
-    #[inline(always)]
-    fn take_reading(
-        &mut self,
-        reading: Result<Option<Request>, LineFault>,
-        out: &mut Vec<u8>,
-    ) -> Result<(), AllocError>
-        requires { self.old.table.clock < 2 ^ 64 - 2 }
-        ensures after { OnOk result (self.new ≡ after_reading self.old reading) }
-        ensures said { OnOk result
-            (out.new.items ≡ out.old.items ++ text_of_lines (said_to self.old reading)) }
-        ensures err { OnErr result
-            (StopsAtReading self.old self.new reading out.old.items out.new.items) }
-    {
-        match reading {
-            Ok(None) => Ok(()),
-            Ok(Some(request)) => self.take_request(request, out),
-            Err(fault) => self.refuse(fault, out),
-        }
-    }
-
     // Answers a request.
     #[inline(always)]
     fn take_request(&mut self, request: Request, out: &mut Vec<u8>) -> Result<(), AllocError>
-        requires { self.old.table.clock < 2 ^ 64 - 2 }
+        requires { IsGoing self.old }
         ensures after { OnOk result (self.new ≡ after_reading self.old (Ok (Some request))) }
         ensures said { OnOk result (out.new.items
             ≡ out.old.items ++ text_of_lines (said_to self.old (Ok (Some request)))) }
@@ -213,38 +210,33 @@ impl Broker {
     {
         match request {
             Request::Order(pass, deed) => {
-                self.carry_out(
-                    Order {
-                        pass,
-                        number: 0,
-                        deed,
-                    },
-                    out,
-                )?;
+                self.carry_out(pass, None, deed, out)?;
                 Ok(())
             }
-            Request::Numbered(pass, number, deed) => {
-                self.take_numbered(Order { pass, number, deed }, out)
-            }
+            Request::Numbered(pass, number, deed) => self.take_numbered(pass, number, deed, out),
             Request::Ask(question) => self.answer(question, out),
         }
     }
 
     // Answers a request that has a number: it is carried out where it comes for the first time.
     #[inline(never)]
-    fn take_numbered(&mut self, order: Order, out: &mut Vec<u8>) -> Result<(), AllocError>
-        requires { self.old.table.clock < 2 ^ 64 - 2 }
-        ensures after { OnOk result
-            (self.new ≡ after_coming self.old order.pass order.number order.deed
-            (coming_of self.old.receipts order.pass order.number)) }
+    fn take_numbered(
+        &mut self,
+        pass: u32,
+        number: u64,
+        deed: Deed,
+        out: &mut Vec<u8>,
+    ) -> Result<(), AllocError>
+        requires { IsGoing self.old }
+        ensures after { OnOk result (self.new ≡ after_coming self.old pass number deed
+            (coming_of self.old.receipts pass number)) }
         ensures said { OnOk result (out.new.items ≡ out.old.items ++ text_of_lines
-            (said_coming self.old order.pass order.deed
-            (coming_of self.old.receipts order.pass order.number))) }
-        ensures err { OnErr result (StopsAtComing self.old self.new order.pass order.deed
-            (coming_of self.old.receipts order.pass order.number) out.old.items out.new.items) }
+            (said_coming self.old pass deed (coming_of self.old.receipts pass number))) }
+        ensures err { OnErr result (StopsAtComing self.old self.new pass deed
+            (coming_of self.old.receipts pass number) out.old.items out.new.items) }
     {
-        match coming_of(&self.receipts, order.pass, order.number) {
-            Coming::First => self.take_first(order, out),
+        match coming_of(&self.receipts, pass, number) {
+            Coming::First => self.take_first(pass, number, deed, out),
             Coming::Again(answer) => push_again(out, answer),
             Coming::Stale => self.refuse(LineFault::Stale, out),
             Coming::Foreign => self.refuse(LineFault::Words, out),
@@ -252,38 +244,44 @@ impl Broker {
     }
 
     // Carries a request out that has a number. It is the last one of its pass then, unless it had a fault.
-    fn take_first(&mut self, order: Order, out: &mut Vec<u8>) -> Result<(), AllocError>
-        requires { self.old.table.clock < 2 ^ 64 - 2 }
-        ensures after { OnOk result (self.new ≡ received order.pass order.number
-            (answer_done self.old order.pass order.deed)
-            (after_deed self.old order.pass order.number order.deed)) }
-        ensures said { OnOk result (out.new.items
-            ≡ out.old.items ++ text_of_lines (said_done self.old order.pass order.deed)) }
+    fn take_first(
+        &mut self,
+        pass: u32,
+        number: u64,
+        deed: Deed,
+        out: &mut Vec<u8>,
+    ) -> Result<(), AllocError>
+        requires { IsGoing self.old }
+        ensures after { OnOk result (self.new ≡ received pass number (answer_done self.old pass deed)
+            (after_deed self.old pass (Some number) deed)) }
+        ensures said { OnOk result
+            (out.new.items ≡ out.old.items ++ text_of_lines (said_done self.old pass deed)) }
         ensures err { OnErr result
-            (StopsAtDeed self.old self.new order.pass order.deed out.old.items out.new.items) }
+            (StopsAtDeed self.old self.new pass deed out.old.items out.new.items) }
     {
-        let answer = self.carry_out(order, out)?;
-        if let Some(answer) = answer {
-            let number = order.number;
-            put(&mut self.receipts, order.pass, Receipt { number, answer });
+        if let Some(answer) = self.carry_out(pass, Some(number), deed, out)? {
+            put(&mut self.receipts, pass, Receipt { number, answer });
         }
         Ok(())
     }
 
     // Does what a request wants done, appends the lines that answer it, and tells what it was answered.
     #[inline(always)]
-    fn carry_out(&mut self, order: Order, out: &mut Vec<u8>) -> Answered
-        requires { self.old.table.clock < 2 ^ 64 - 2 }
-        ensures answer { IfOk result (λ answer.
-            answer ≡ answer_done self.old order.pass order.deed) }
-        ensures after { OnOk result
-            (self.new ≡ after_deed self.old order.pass order.number order.deed) }
-        ensures said { OnOk result (out.new.items
-            ≡ out.old.items ++ text_of_lines (said_done self.old order.pass order.deed)) }
+    fn carry_out(
+        &mut self,
+        pass: u32,
+        number: Option<u64>,
+        deed: Deed,
+        out: &mut Vec<u8>,
+    ) -> Answered
+        requires { IsGoing self.old }
+        ensures answer { IfOk result (λ answer. answer ≡ answer_done self.old pass deed) }
+        ensures after { OnOk result (self.new ≡ after_deed self.old pass number deed) }
+        ensures said { OnOk result
+            (out.new.items ≡ out.old.items ++ text_of_lines (said_done self.old pass deed)) }
         ensures err { OnErr result
-            (StopsAtDeed self.old self.new order.pass order.deed out.old.items out.new.items) }
+            (StopsAtDeed self.old self.new pass deed out.old.items out.new.items) }
     {
-        let Order { pass, number, deed } = order;
         match deed {
             Deed::Make(call) => self.make(pass, call, out),
             Deed::Await(task) => self.wait(pass, number, task, out),
@@ -292,70 +290,54 @@ impl Broker {
     }
 
     // Makes a call of a pass, and appends its line, and those of the begins that wait no longer after it. Room for its line
-    // comes first: where there is none, nothing is done.
+    // and for those of all who wait comes first: where there is none, nothing is done.
     #[inline(always)]
     fn make(&mut self, pass: u32, call: Call, out: &mut Vec<u8>) -> Answered
-        requires { self.old.table.clock < 2 ^ 64 - 2 }
+        requires { IsGoing self.old }
         ensures answer { IfOk result (λ answer.
             answer ≡ Some (RequestAnswer.Made (entry_in self.old.table pass call))) }
         ensures after { OnOk result (self.new ≡ after_making self.old call) }
         ensures said { OnOk result (out.new.items ≡ out.old.items
             ++ text_of_lines (map entry_text (entries_made self.old pass call))) }
-        ensures err { OnErr result
-            (StopsAtCall self.old self.new pass call out.old.items out.new.items) }
+        ensures err { OnErr result (IsUndone self.old self.new out.old.items out.new.items) }
     {
-        out.reserve(MAX_ENTRY_LINE)?;
-        let entry = self.apply(pass, call, out)?;
+        let reply = self.arbiter.reply_to(call);
+        let entry = Entry { pass, call, reply };
+        push_line_and_room(out, entry, self.waiters.len())?;
+        self.apply(call, reply, out);
         Ok(Some(RequestAnswer::Made(entry)))
     }
 
-    // Makes a call of a pass, for whose line there is room, appends that, and makes the begins that wait no longer. Those who
-    // are at rest are not looked at where the call ended no wait, and else few are.
+    // Makes a call whose reply is known, and the begins that wait no longer after it, for whose lines there is room. None is
+    // looked at where the call can have ended no wait.
     #[inline(always)]
-    fn apply(&mut self, pass: u32, call: Call, out: &mut Vec<u8>) -> Result<Entry, AllocError>
-        requires clock { self.old.table.clock < 2 ^ 64 - 2 }
-        requires room { vec_len out.old + MAX_ENTRY_LINE ≤ vec_capacity out.old }
-        ensures entry { IfOk result (λ entry. entry ≡ entry_in self.old.table pass call) }
-        ensures after { OnOk result (self.new ≡ after_making self.old call) }
-        ensures said { OnOk result (out.new.items ≡ (out.old.items
-            ++ text_of_lines (entry_text (entry_in self.old.table pass call) ∷ []))
+    fn apply(&mut self, call: Call, reply: Reply, out: &mut Vec<u8>)
+        requires going { IsGoing self.old }
+        requires reply { reply ≡ reply_of self.old.table call }
+        requires room { vec_len out.old + MAX_ENTRY_LINE * length self.old.awaits
+            ≤ vec_capacity out.old }
+        ensures after { self.new ≡ after_making self.old call }
+        ensures said { out.new.items ≡ out.old.items
             ++ text_of_lines (map entry_text (begun_after (retries_after self.old call)
-            (table_after_call self.old.table call) self.old.awaits))) }
-        ensures err { OnErr result
-            (IsPartlyMade self.old self.new pass call out.old.items out.new.items) }
+            (table_after_call self.old.table call) self.old.awaits)) }
     {
-        let reply = self.arbiter.apply(call);
-        let entry = Entry { pass, call, reply };
-        put_entry_line(out, entry);
-        if !retries_waits(call, reply) {
-            return Ok(entry);
+        self.arbiter.apply_answered(call, reply);
+        if self.waiters.len() == 0 || !call.may_end_waits(reply) {
+            return;
         }
-        if is_no_one(self.awaits.as_slice()) {
-            return Ok(entry);
-        }
-        let was_at_rest = self.is_at_rest;
-        if was_at_rest && !may_end_waits_by(call, reply, self.arbiter.messages()) {
-            return Ok(entry);
-        }
-        let stretch = stretch_after(self.awaits.as_slice(), &self.arbiter, call, was_at_rest);
-        // As it is where memory is wanting on the way.
-        self.is_at_rest = false;
         begin_waiting(
             &mut self.arbiter,
-            &mut self.awaits,
+            &mut self.waiters,
             &mut self.receipts,
-            stretch,
+            call,
             out,
-        )?;
-        let is_none_left = is_no_one(self.awaits.as_slice());
-        self.is_at_rest = was_at_rest || is_none_left;
-        Ok(entry)
+        );
     }
 
     // Begins a task for a pass where it need not wait, and else notes that it waits.
     #[inline(never)]
-    fn wait(&mut self, pass: u32, number: u64, task: Task, out: &mut Vec<u8>) -> Answered
-        requires { self.old.table.clock < 2 ^ 64 - 2 }
+    fn wait(&mut self, pass: u32, number: Option<u64>, task: Task, out: &mut Vec<u8>) -> Answered
+        requires { IsGoing self.old }
         ensures answer { IfOk result (λ answer.
             answer ≡ answer_done self.old pass (Deed.Await task)) }
         ensures after { OnOk result
@@ -372,8 +354,7 @@ impl Broker {
             self.refuse(LineFault::Full, out)?;
             return Ok(None);
         }
-        let awaited = Await { pass, task, number };
-        note(&mut self.awaits, &self.arbiter, awaited, self.is_at_rest)?;
+        self.waiters.note(Await { pass, task, number })?;
         Ok(Some(RequestAnswer::Waits))
     }
 
@@ -382,7 +363,7 @@ impl Broker {
         ensures { result ≡ is_full self.now }
     {
         let most = self.arbiter.limits().tasks as usize;
-        most <= self.awaits.as_slice().len()
+        most <= self.waiters.len()
     }
 
     // Takes a begin back that waits, and appends the line that tells of it.
@@ -390,13 +371,12 @@ impl Broker {
     fn cancel(&mut self, pass: u32, task: Task, out: &mut Vec<u8>) -> Answered
         ensures answer { IfOk result (λ answer.
             answer ≡ answer_done self.old pass (Deed.Cancel task)) }
-        ensures after { self.new ≡ after_deed self.old pass 0 (Deed.Cancel task) }
+        ensures after { self.new ≡ after_deed self.old pass None (Deed.Cancel task) }
         ensures said { OnOk result (out.new.items
             ≡ out.old.items ++ text_of_lines (said_done self.old pass (Deed.Cancel task))) }
         ensures err_said { OnErr result (IsPrefix out.old.items out.new.items) }
     {
-        let is_in_order = self.is_at_rest;
-        let was_noted = take_back(&mut self.awaits, &self.arbiter, pass, task, is_in_order);
+        let was_noted = self.waiters.take_back(pass, task);
         push_cancelled_line(out, was_noted, task)?;
         Ok(Some(RequestAnswer::Cancelled(was_noted, task)))
     }
@@ -424,7 +404,11 @@ impl Broker {
             Question::Neighbours(task) => {
                 push_neighbours(out, self.arbiter.neighbours(self.alloc, task)?)
             }
+            Question::Blockers(task) => {
+                push_listed(out, b"blockers", self.arbiter.blockers(self.alloc, task)?)
+            }
             Question::Next => push_next(out, self.arbiter.next_ready()),
+            Question::Ready => push_listed(out, b"ready", Some(self.arbiter.ready(self.alloc)?)),
         }
     }
 

@@ -2,25 +2,25 @@
 
 ghost use Rattle.std.specs.Prelude.{◌≡◌, ◌≤◌, ℕ, ◌+◌, ◌++◌, List, Option, Result, Some, codes, length, map, take};
 ghost use Rattle.std.specs.List.{filter};
-ghost use Rattle.dine_words.specs.declared.limits.Limits.{Limits};
-ghost use Rattle.dine_words.specs.declared.task.Task.{Task};
-ghost use Rattle.dine_table.specs.Table.{Table};
-ghost use Rattle.dine_serve.specs.declared.awaits.Await.{Await};
-ghost use Rattle.dine_serve.specs.Waits.{AllWait, InOrder, awaits_of, begins_of, begun_from, still_waiting};
-ghost use Rattle.dine_table.specs.History.{IsLegal};
 ghost use Rattle.dine_journal.specs.JournalText.{journal_text};
-ghost use Rattle.dine_serve.specs.Journals.{is_of_journal};
+ghost use Rattle.dine_serve.specs.declared.awaits.Await.{Await};
 ghost use Rattle.dine_serve.specs.declared.receipts.RequestAnswer.{RequestAnswer};
-ghost use Rattle.dine_serve.specs.declared.receipts.Coming.TheVariants as Coming;
 ghost use Rattle.dine_serve.specs.declared.request.Deed.{Deed};
 ghost use Rattle.dine_serve.specs.declared.request.Request.{Request};
 ghost use Rattle.dine_serve.specs.declared.request_fault.LineFault.{LineFault};
+ghost use Rattle.dine_table.specs.History.{IsLegal};
+ghost use Rattle.dine_table.specs.Table.{Table};
+ghost use Rattle.dine_words.specs.Texts.{text_of_lines};
+ghost use Rattle.dine_words.specs.declared.limits.Limits.{Limits};
+ghost use Rattle.dine_words.specs.declared.task.Task.{Task};
+ghost use Rattle.dine_serve.specs.Waits.{AllWait, InOrder, awaits_of, begins_of, begun_from, still_waiting};
+ghost use Rattle.dine_serve.specs.Journals.{is_of_journal};
+ghost use Rattle.dine_serve.specs.declared.receipts.Coming.TheVariants as Coming;
 ghost use Rattle.dine_serve.specs.Answers.{again_lines};
 ghost use Rattle.dine_serve.specs.Partly.{HaveTheirLines, StopsAtReading};
 ghost use Rattle.dine_serve.specs.Receipts.{coming_of};
 ghost use Rattle.dine_serve.specs.Repeats.{is_no_repeat, times_carried_out, without_repeats};
 ghost use Rattle.dine_serve.specs.Serving.{Broker, after_coming, answer_done, entries_by, entries_from, history_of, opening, said_done, said_from, served_lines, standing_at, standing_from};
-ghost use Rattle.dine_words.specs.Texts.{text_of_lines};
 
 /// After each line, whoever waits for a begin would be answered `not-yet`: no await is forgotten whose turn has come.
 pub fn nobody_waits_whose_turn_has_come()

@@ -4,14 +4,14 @@
 mod answer_texts;
 mod awaits;
 mod broker;
+mod due;
 mod law;
 mod receipts;
 mod request;
 mod request_fault;
-mod row;
 mod serving;
-mod stretch;
 mod usual;
+mod waiters;
 
 pub use broker::Broker;
 pub use dine_streams::{CliFault, Ended};

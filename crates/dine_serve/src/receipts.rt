@@ -53,31 +53,23 @@ pub fn no_receipts(alloc: Global, passes: Option<u32>) -> Result<Vec<Option<Rece
 pub fn coming_of(receipts: &[Option<Receipt>], pass: u32, number: u64) -> Coming
     ensures { result ≡ coming_of receipts.now pass number }
 {
-    match receipts.get(pass as usize) {
-        None => Coming::Foreign,
-        Some(None) => Coming::First,
-        Some(Some(last)) => coming_after(*last, number),
+    let Some(last) = receipts.get(pass as usize) else {
+        return Coming::Foreign;
+    };
+    match last {
+        Some(last) if last.number == number => Coming::Again(last.answer),
+        Some(last) if number < last.number => Coming::Stale,
+        _ => Coming::First,
     }
-}
-
-// How a request comes, by its number and the last one of its pass.
-fn coming_after(last: Receipt, number: u64) -> Coming
-    ensures { result ≡ coming_after (Some last) number }
-{
-    if last.number < number {
-        return Coming::First;
-    }
-    if last.number == number {
-        return Coming::Again(last.answer);
-    }
-    Coming::Stale
 }
 
 /// Puts the entry of a begin that waited on the receipt of its pass, unless the pass has asked for more since.
 pub fn settle(receipts: &mut Vec<Option<Receipt>>, awaited: Await, entry: Entry)
     ensures { receipts.new.items ≡ settled receipts.old.items awaited entry }
 {
-    let number = awaited.number;
+    let Some(number) = awaited.number else {
+        return;
+    };
     if has_number(receipts, awaited.pass, number) {
         let answer = RequestAnswer::Made(entry);
         put(receipts, awaited.pass, Receipt { number, answer });

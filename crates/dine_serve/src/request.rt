@@ -1,12 +1,11 @@
 //! What a line asks for.
 
 ghost use Rattle.std.specs.Prelude.{◌≡◌, ◌-◌, ◌^◌, codes};
-ghost use Rattle.dine_words.specs.Reading.{Finds, task_at, whole, word_at};
 ghost use Rattle.dine_streams.specs.Handed.{handed};
+ghost use Rattle.dine_words.specs.Reading.{Finds, task_at, whole, word_at};
 ghost use Rattle.dine_serve.specs.Requests.{ask_request, deed_of, numbered_by, order_at, pass_at, question_of, reading_of, request_of, spaced_at, wait_of};
 
 use crate::request_fault::LineFault;
-use crate::usual::{after_await, after_cancel};
 use dine_lines::is_passed_over;
 use dine_streams::Line;
 use dine_words::{Call, JournalVersion, Task, number_at};
@@ -18,8 +17,12 @@ pub enum Question {
     State(Task),
     /// The tasks that a task is in conflict with.
     Neighbours(Task),
+    /// The tasks that keep a task waiting.
+    Blockers(Task),
     /// The ready task whose last meal is the earliest.
     Next,
+    /// All ready tasks, by last meal.
+    Ready,
 }
 
 /// What a pass can want done.
@@ -50,21 +53,13 @@ pub enum Request {
 pub fn read_line(line: Line, is_numbered: bool) -> Result<Option<Request>, LineFault>
     ensures { result ≡ reading_of is_numbered (handed line.entry) }
 {
-    match line {
-        Line::Whole(bytes) => read_bytes(bytes, is_numbered),
-        Line::TooLong => Err(LineFault::Words),
-    }
-}
-
-// What a line of these bytes asks for.
-#[inline(always)]
-fn read_bytes(line: &[u8], is_numbered: bool) -> Result<Option<Request>, LineFault>
-    ensures { result ≡ reading_of is_numbered (Some line.now) }
-{
-    if is_passed_over(line) {
+    let Line::Whole(bytes) = line else {
+        return Err(LineFault::Words);
+    };
+    if is_passed_over(bytes) {
         return Ok(None);
     }
-    match read_request(line, is_numbered) {
+    match read_request(bytes, is_numbered) {
         Some(request) => Ok(Some(request)),
         None => Err(LineFault::Words),
     }
@@ -77,7 +72,7 @@ fn read_request(line: &[u8], is_numbered: bool) -> Option<Request>
 {
     match pass_at(line) {
         Some((pass, rest)) => read_order(pass, rest, is_numbered),
-        None => read_ask(line),
+        None => Some(Request::Ask(read_question(line)?)),
     }
 }
 
@@ -116,21 +111,11 @@ fn after_space(bytes: &[u8]) -> Option<&[u8]>
 fn read_order(pass: u32, bytes: &[u8], is_numbered: bool) -> Option<Request>
     ensures { result ≡ order_at is_numbered pass bytes.now }
 {
-    if is_numbered {
-        return read_numbered(pass, bytes);
+    if !is_numbered {
+        return Some(Request::Order(pass, read_deed(bytes)?));
     }
-    let deed = read_deed(bytes)?;
-    Some(Request::Order(pass, deed))
-}
-
-// What a pass wants done by a request that has a number.
-#[inline(never)]
-fn read_numbered(pass: u32, bytes: &[u8]) -> Option<Request>
-    ensures { result ≡ numbered_by pass (spaced_at (2 ^ 64 - 1) bytes.now) }
-{
     let (number, rest) = spaced_at(bytes, u64::MAX)?;
-    let deed = read_deed(rest)?;
-    Some(Request::Numbered(pass, number, deed))
+    Some(Request::Numbered(pass, number, read_deed(rest)?))
 }
 
 // What a pass wants done.
@@ -150,25 +135,17 @@ fn read_deed(bytes: &[u8]) -> Option<Deed>
 fn read_wait(bytes: &[u8]) -> Option<Deed>
     ensures { result ≡ wait_of bytes.now }
 {
-    if let Some(rest) = after_await(bytes) {
+    if let Some(rest) = after_word(bytes, b"await ") {
         let task = whole_task(rest)?;
         return Some(Deed::Await(task));
     }
-    let rest = after_cancel(bytes)?;
+    let rest = after_word(bytes, b"cancel ")?;
     let task = whole_task(rest)?;
     Some(Deed::Cancel(task))
 }
 
-// The question that a line is, as a request.
-#[inline(never)]
-fn read_ask(line: &[u8]) -> Option<Request>
-    ensures { result ≡ ask_request (question_of line.now) }
-{
-    let question = read_question(line)?;
-    Some(Request::Ask(question))
-}
-
 // The question that a line is.
+#[inline(never)]
 fn read_question(line: &[u8]) -> Option<Question>
     ensures { result ≡ question_of line.now }
 {
@@ -180,14 +157,20 @@ fn read_question(line: &[u8]) -> Option<Question>
         let task = whole_task(rest)?;
         return Some(Question::Neighbours(task));
     }
+    if let Some(rest) = after_word(line, b"blockers ") {
+        let task = whole_task(rest)?;
+        return Some(Question::Blockers(task));
+    }
     match line {
         b"next" => Some(Question::Next),
+        b"ready" => Some(Question::Ready),
         _ => None,
     }
 }
 
-// What comes after a word that stands at the front.
-fn after_word<'a>(bytes: &'a [u8], word: &[u8]) -> Option<&'a [u8]>
+/// What comes after a word that stands at the front.
+#[inline(always)]
+pub fn after_word<'a>(bytes: &'a [u8], word: &[u8]) -> Option<&'a [u8]>
     ensures { Finds (λ rest. rest.now) result (word_at word.now bytes.now) }
 {
     bytes.strip_prefix(word)

@@ -2,12 +2,12 @@
 
 ghost use Rattle.std.specs.Prelude.{◌≡◌, ◌∷◌, ◌++◌, ◌||◌, [], true, OnErr, OnOk};
 ghost use Rattle.std.specs.Io.KnownBytes.{Appends, Keeps};
+ghost use Rattle.dine_streams.specs.Ending.{end_of};
 ghost use Rattle.dine_streams.specs.Lines.{begun_line, seen_lines};
+ghost use Rattle.dine_streams.specs.Written.{AppendsLinesOf, AppendsPartOf};
 ghost use Rattle.dine_words.specs.Texts.{header_text, text_of_lines};
 ghost use Rattle.dine_words.specs.Versions.{written_version};
-ghost use Rattle.dine_streams.specs.Ending.{end_of};
 ghost use Rattle.dine_serve.specs.Serving.{has_fault_of, is_torn, opening, said_from, said_of_begun, standing_from};
-ghost use Rattle.dine_streams.specs.Written.{AppendsLinesOf, AppendsPartOf};
 ghost use Rattle.dine_serve.specs.Streams.{Says, Serves};
 
 use crate::broker::Broker;
@@ -30,7 +30,7 @@ use std::alloc::Global;
 ///
 /// It gives up with `Read` where a read fails; with `Write` where a write fails, and has written a part of the output;
 /// and with `Memory` where memory runs out, and has written some whole lines of the output, from the first on. However
-/// much comes, it takes no more memory.
+/// much comes, it takes no more memory than for as many begins that wait as tasks may be present.
 pub fn run_serve<R: Source, W: Sink>(
     alloc: Global,
     reader: &mut R,

@@ -13,5 +13,6 @@ pub mod Clock
 pub mod Names
 pub mod NextReady
 pub mod Beginning
+pub mod WaitingLemmas
 pub mod Overtaking
 pub mod CallerLemmas

@@ -47,7 +47,7 @@ other_end-is u v c = elim (cases_Bool (same_task u c.0)) [
     ]
 
 -- a task is among the neighbours exactly where it is in conflict with their task
-neighbours_in-is : (u v : Task) (cs : List (Task × Task)) → list_any (same_task v) (neighbours_in cs u) ≡ list_any (is_between u v) cs
+pub neighbours_in-is : (u v : Task) (cs : List (Task × Task)) → list_any (same_task v) (neighbours_in cs u) ≡ list_any (is_between u v) cs
 neighbours_in-is u v [] = refl
 neighbours_in-is u v (c ∷ cs) =
     any-cons_option v (other_end u c) (neighbours_in cs u)

@@ -114,7 +114,7 @@ pub next_ready-first : (t : Table) (v w : Task) → next_ready_of t ≡ Some v �
 next_ready-first t v w h k = named_first (is_ready t) t.order v w h k
 
 -- whoever is hungry is present
-ready_present : (t : Table) (w : Task) → is_ready t w ≡ true → (x : State) × (state_of t w ≡ Some x)
+pub ready_present : (t : Table) (w : Task) → is_ready t w ≡ true → (x : State) × (state_of t w ≡ Some x)
 ready_present t w h = present (state_of t w) (and_parts (is_in Hungry t.order w) (not (list_any (keeps_waiting t.order w) (neighbours_of t w))) h).0
   where
     present : (o : Option State) → is_found Hungry o ≡ true → (x : State) × (o ≡ Some x)

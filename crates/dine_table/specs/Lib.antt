@@ -1,4 +1,5 @@
 pub mod Table
+pub mod Waiting
 pub mod Calls
 pub mod Transitions
 pub mod History

@@ -1,6 +1,6 @@
 //! The laws of the table of last meals, whatever is called. Each is the contract of a function that does nothing.
 
-ghost use Rattle.std.specs.Prelude.{◌≡◌, ◌≢◌, ◌↔◌, ℕ, ◌+◌, ◌<◌, ◌≤◌, true, false, List, ◌∷◌, ◌++◌, length, Some, None, IsSome};
+ghost use Rattle.std.specs.Prelude.{◌≡◌, ◌≢◌, ◌↔◌, ℕ, ◌+◌, ◌<◌, ◌≤◌, true, false, List, [], ◌∷◌, ◌++◌, length, slice_get, Some, None, IsSome};
 ghost use Rattle.std.specs.List.{All, AllPairs, Any, Contains};
 ghost use Rattle.dine_words.specs.declared.call.Call.{Call};
 ghost use Rattle.dine_words.specs.declared.call.Refusal.{Refusal};
@@ -9,7 +9,8 @@ ghost use Rattle.dine_words.specs.declared.entry.Entry.{Entry};
 ghost use Rattle.dine_words.specs.declared.limits.Limits.{Limits};
 ghost use Rattle.dine_words.specs.declared.task.State.{State};
 ghost use Rattle.dine_words.specs.declared.task.Task.{Task};
-ghost use Rattle.dine_table.specs.Table.{Table, opening_table, state_of, is_between, are_in_conflict, neighbours_of, is_ready, next_ready_of, stands_before};
+ghost use Rattle.dine_table.specs.Table.{Table, opening_table, state_of, is_between, are_in_conflict, neighbours_of, is_ready, keeps_waiting, next_ready_of, stands_before};
+ghost use Rattle.dine_table.specs.Waiting.{blockers_of, ready_of};
 ghost use Rattle.dine_table.specs.Calls.{newcomer, refusal_of, reply_of, table_after_call};
 ghost use Rattle.dine_table.specs.History.{IsLegal, overtaken, table_after};
 ghost use Rattle.dine_table.specs.Messages.{cost_of};
@@ -143,6 +144,25 @@ pub fn the_next_ready_ate_earliest()
     ensures earliest { (t : Table) (v w : Task) → next_ready_of t ≡ Some v →
         is_ready t w ≡ true → stands_before t.order w v ≡ false }
     ensures none { (t : Table) (w : Task) → next_ready_of t ≡ None → is_ready t w ≡ false }
+{}
+
+/// A hungry task waits for the neighbours that eat, and for those that are hungry with an earlier last meal. It may begin
+/// exactly where there are none.
+pub fn a_hungry_task_may_begin_exactly_where_nobody_blocks_it()
+    ensures blockers { (t : Table) (u v : Task) → state_of t u ≡ Some State.Hungry →
+        Contains (blockers_of t u) v
+        ↔ ((are_in_conflict t u v ≡ true) × (keeps_waiting t.order u v ≡ true)) }
+    ensures ready { (t : Table) (u : Task) → state_of t u ≡ Some State.Hungry →
+        (is_ready t u ≡ true) ↔ (blockers_of t u ≡ []) }
+{}
+
+/// All tasks that are ready may begin, and no others. No two of them are in conflict, so none waits for another's begin.
+/// Whoever is named next is the first of them, if there is one.
+pub fn the_next_ready_is_the_first_of_all()
+    ensures members { (t : Table) (u : Task) → Contains (ready_of t) u ↔ (is_ready t u ≡ true) }
+    ensures apart { (t : Table) (u v : Task) → IsSound t → is_ready t u ≡ true →
+        is_ready t v ≡ true → are_in_conflict t u v ≡ false }
+    ensures first { (t : Table) → next_ready_of t ≡ slice_get (ready_of t) 0 }
 {}
 
 /// In a legal history a hungry task is overtaken by each neighbour at most once: until it begins or withdraws, the

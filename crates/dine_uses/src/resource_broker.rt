@@ -1,10 +1,11 @@
 //! A broker of resources over an arbiter: a client gets all that it asks for at once, or waits.
 
-ghost use Rattle.std.specs.Prelude.{◌≡◌, ◌≢◌, ◌<◌, ◌^◌, ◌-◌, ℕ, Err, IfErr, IfOk, OnErr, OnOk, Some, None, take, true};
+ghost use Rattle.std.specs.Prelude.{◌≡◌, ◌≢◌, ◌<◌, ◌^◌, ◌-◌, ℕ, Err, IfErr, IfOk, OnErr, OnOk, Some, None, option_map, take, true};
 ghost use Rattle.dine_words.specs.declared.task.Task.{Task};
 ghost use Rattle.dine_table.specs.Calls.{newcomer};
 ghost use Rattle.dine_table.specs.Sound.{IsSound};
 ghost use Rattle.dine_table.specs.Table.{are_in_conflict, next_ready_of, opening_table, state_of};
+ghost use Rattle.dine_table.specs.Waiting.{blockers_if_present};
 ghost use Rattle.dine_uses.specs.Requests.{HasRequested, IsAsBefore, with_rivals};
 
 use crate::calling::{carry_out, join};
@@ -36,7 +37,7 @@ impl Model for Broker {
 }
 
 impl Broker {
-    /// A broker with no client. An error is want of memory, and no later call wants any.
+    /// A broker with no client. An error is want of memory, and no later call but [`Broker::waits_for`] wants any.
     pub fn new(alloc: Global, limits: Limits) -> Result<Broker, AllocError>
         ensures { IfOk result (λ broker. broker ≡ opening_table limits) }
     {
@@ -78,6 +79,15 @@ impl Broker {
         ensures { result ≡ next_ready_of self.now }
     {
         self.arbiter.next_ready()
+    }
+
+    /// For whom a client waits: its rivals that hold what they asked for, and those that are to be served before. `None`
+    /// where it isn't a client. An error is want of memory for the list.
+    pub fn waits_for(&self, alloc: Global, client: Task) -> Result<Option<Vec<Task>>, AllocError>
+        ensures { IfOk result (λ found.
+            option_map (λ tasks. tasks.items) found ≡ blockers_if_present self.now client) }
+    {
+        self.arbiter.blockers(alloc, client)
     }
 
     /// Gives a client what it asked for. An error says why not, and nothing has changed then: `NotYet` where a rival

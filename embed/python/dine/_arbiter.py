@@ -156,9 +156,20 @@ class Arbiter:
     def neighbours(self, task: Task) -> List[Task]:
         """The tasks that a task is in conflict with, in the order in which the conflicts were declared."""
         self._open()
-        answer, found = library.neighbours(self._handle, task, self.limits()[0])
-        _accepted(Answer(answer))
-        return [Task(*name) for name in found]
+        return _listed(library.neighbours(self._handle, task, self.limits()[0]))
+
+    def blockers(self, task: Task) -> List[Task]:
+        """Those of its neighbours for which a hungry task waits: who eats, and who is hungry with an earlier last meal.
+
+        There are none for a task that isn't hungry, or that may begin.
+        """
+        self._open()
+        return _listed(library.blockers(self._handle, task, self.limits()[0]))
+
+    def ready(self) -> List[Task]:
+        """All ready tasks, the one with the earliest last meal first."""
+        self._open()
+        return _listed(library.ready(self._handle, self.limits()[0]))
 
     def has_room(self) -> bool:
         """Whether one more conflict has room."""
@@ -239,6 +250,12 @@ class Broker:
         """The two may eat at the same time again."""
         with self.changed() as arbiter:
             arbiter.separate(first, second)
+
+
+def _listed(told: Tuple[int, List[library.Name]]) -> List[Task]:
+    answer, found = told
+    _accepted(Answer(answer))
+    return [Task(*name) for name in found]
 
 
 def _accepted(answer: Answer) -> bool:

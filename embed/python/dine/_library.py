@@ -4,7 +4,7 @@ Each handle here is open, but at `open_at`.
 """
 import ctypes
 import os
-from typing import List, Optional, Tuple
+from typing import Callable, List, Optional, Tuple
 
 Name = Tuple[int, int]
 
@@ -23,6 +23,7 @@ def _loaded() -> ctypes.CDLL:
     beside = os.path.join(os.path.dirname(os.path.abspath(__file__)), "libdine.so")
     found = ctypes.CDLL(os.environ.get("DINE_LIBRARY", beside))
     handle, task, number = ctypes.POINTER(Handle), ctypes.POINTER(_Task), ctypes.POINTER(ctypes.c_uint32)
+    tasks = (task, ctypes.c_size_t, ctypes.POINTER(ctypes.c_size_t))
     text = (ctypes.c_char_p, ctypes.c_size_t)
     place = (ctypes.c_void_p, ctypes.c_size_t, ctypes.POINTER(ctypes.c_size_t))
     signatures = {
@@ -32,7 +33,9 @@ def _loaded() -> ctypes.CDLL:
         "dine_state": (ctypes.c_uint32, [handle, task]),
         "dine_is_ready": (ctypes.c_bool, [handle, task]),
         "dine_next_ready": (ctypes.c_bool, [handle, task]),
-        "dine_neighbours": (ctypes.c_uint32, [handle, task, task, ctypes.c_size_t, ctypes.POINTER(ctypes.c_size_t)]),
+        "dine_neighbours": (ctypes.c_uint32, [handle, task, *tasks]),
+        "dine_blockers": (ctypes.c_uint32, [handle, task, *tasks]),
+        "dine_ready": (ctypes.c_uint32, [handle, *tasks]),
         "dine_has_room": (ctypes.c_bool, [handle]),
         "dine_clock": (ctypes.c_uint64, [handle]),
         "dine_messages": (ctypes.c_uint32, [handle]),
@@ -78,9 +81,15 @@ def next_ready(handle: Handle) -> Optional[Name]:
 
 
 def neighbours(handle: Handle, task: Name, room: int) -> Tuple[int, List[Name]]:
-    found, count = (_Task * room)(), ctypes.c_size_t()
-    answer = _DINE.dine_neighbours(handle, _named(task), found, room, count)
-    return answer, [(name.slot, name.born) for name in found[: count.value]]
+    return _listed(_DINE.dine_neighbours, room, handle, _named(task))
+
+
+def blockers(handle: Handle, task: Name, room: int) -> Tuple[int, List[Name]]:
+    return _listed(_DINE.dine_blockers, room, handle, _named(task))
+
+
+def ready(handle: Handle, room: int) -> Tuple[int, List[Name]]:
+    return _listed(_DINE.dine_ready, room, handle)
 
 
 def has_room(handle: Handle) -> bool:
@@ -117,6 +126,13 @@ def audit(journal: bytes, room: int) -> Tuple[int, bytes, int]:
     out, written = ctypes.create_string_buffer(room + 1), ctypes.c_size_t()
     answer = _DINE.dine_audit(journal, len(journal), out, room, written)
     return answer, out.raw[: min(written.value, room)], written.value
+
+
+def _listed(call: Callable[..., int], room: int, *words: object) -> Tuple[int, List[Name]]:
+    """The answer, and the names that a call writes to a place with so much room."""
+    found, count = (_Task * room)(), ctypes.c_size_t()
+    answer = call(*words, found, room, count)
+    return answer, [(name.slot, name.born) for name in found[: count.value]]
 
 
 def _named(task: Name) -> _Task:

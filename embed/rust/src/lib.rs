@@ -190,14 +190,18 @@ impl Arbiter {
 
     /// The tasks that a task is in conflict with, in the order in which the conflicts were declared.
     pub fn neighbours(&mut self, task: Task) -> Result<Vec<Task>, Refused> {
-        let mut found = vec![Task { slot: 0, born: 0 }; self.limits().0 as usize];
-        match self.0.neighbours(task, &mut found) {
-            (0, count) => {
-                found.truncate(count);
-                Ok(found)
-            }
-            (answer, _) => Err(answer.into()),
-        }
+        self.listed(|handle, found| handle.neighbours(task, found))
+    }
+
+    /// Those of its neighbours for which a hungry task waits: who eats, and who is hungry with an earlier last meal. There are
+    /// none for a task that isn't hungry, or that may begin.
+    pub fn blockers(&mut self, task: Task) -> Result<Vec<Task>, Refused> {
+        self.listed(|handle, found| handle.blockers(task, found))
+    }
+
+    /// All ready tasks, the one with the earliest last meal first.
+    pub fn ready(&mut self) -> Result<Vec<Task>, Refused> {
+        self.listed(|handle, found| handle.ready(found))
     }
 
     /// Whether one more conflict has room.
@@ -218,5 +222,17 @@ impl Arbiter {
     /// The most tasks and the most conflicts at once.
     pub fn limits(&mut self) -> (u32, u32) {
         self.0.limits()
+    }
+
+    /// The tasks that a call writes to a place with room for all, and how many it says there are.
+    fn listed(&mut self, list: impl FnOnce(&mut sys::Handle, &mut [Task]) -> (u32, usize)) -> Result<Vec<Task>, Refused> {
+        let mut found = vec![Task { slot: 0, born: 0 }; self.limits().0 as usize];
+        match list(&mut self.0, &mut found) {
+            (0, count) => {
+                found.truncate(count);
+                Ok(found)
+            }
+            (answer, _) => Err(answer.into()),
+        }
     }
 }

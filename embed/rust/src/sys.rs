@@ -22,6 +22,8 @@ extern "C" {
     fn dine_is_ready(dine: *mut Raw, task: *const Task) -> bool;
     fn dine_next_ready(dine: *mut Raw, next: *mut Task) -> bool;
     fn dine_neighbours(dine: *mut Raw, task: *const Task, found: *mut Task, room: usize, count: *mut usize) -> u32;
+    fn dine_blockers(dine: *mut Raw, task: *const Task, found: *mut Task, room: usize, count: *mut usize) -> u32;
+    fn dine_ready(dine: *mut Raw, found: *mut Task, room: usize, count: *mut usize) -> u32;
     fn dine_has_room(dine: *mut Raw) -> bool;
     fn dine_clock(dine: *mut Raw) -> u64;
     fn dine_messages(dine: *mut Raw) -> u32;
@@ -106,6 +108,20 @@ impl Handle {
     pub(crate) fn neighbours(&mut self, task: Task, found: &mut [Task]) -> (u32, usize) {
         let mut count = 0;
         let answer = unsafe { dine_neighbours(&mut self.0, &task, found.as_mut_ptr(), found.len(), &mut count) };
+        (answer, count)
+    }
+
+    /// The number of the answer, and how many there are.
+    pub(crate) fn blockers(&mut self, task: Task, found: &mut [Task]) -> (u32, usize) {
+        let mut count = 0;
+        let answer = unsafe { dine_blockers(&mut self.0, &task, found.as_mut_ptr(), found.len(), &mut count) };
+        (answer, count)
+    }
+
+    /// The number of the answer, and how many there are.
+    pub(crate) fn ready(&mut self, found: &mut [Task]) -> (u32, usize) {
+        let mut count = 0;
+        let answer = unsafe { dine_ready(&mut self.0, found.as_mut_ptr(), found.len(), &mut count) };
         (answer, count)
     }
 

@@ -33,10 +33,14 @@ fn answers_by_its_calls() {
     assert_eq!(arbiter.act(Call::Hungry(a)), Ok(None));
     assert_eq!(arbiter.act(Call::Begin(a)), Err(Refused::NotYet));
     assert_eq!(arbiter.next_ready(), None);
-    assert_eq!(arbiter.act(Call::Withdraw(a)), Ok(None));
+    assert_eq!((arbiter.blockers(a), arbiter.blockers(b)), (Ok(vec![b]), Ok(vec![])));
+    assert_eq!(arbiter.blockers(Task { slot: 7, born: 7 }), Err(Refused::Unknown));
+    assert_eq!(arbiter.ready(), Ok(vec![]));
     assert_eq!(arbiter.act(Call::Finish(b)), Ok(None));
     assert_eq!(arbiter.clock(), 4);
     assert!(arbiter.messages() <= 1);
+    assert_eq!((arbiter.blockers(a), arbiter.ready()), (Ok(vec![]), Ok(vec![a])));
+    assert_eq!(arbiter.act(Call::Withdraw(a)), Ok(None));
     assert_eq!(arbiter.act(Call::Separate(b, a)), Ok(None));
     assert_eq!(arbiter.act(Call::Leave(a)), Ok(None));
     assert_eq!(arbiter.state(a), None);

@@ -2,23 +2,23 @@
 //!
 //! A record lies in three cells of the block: what a walk reads, by which the next pointers go, and beside it the previous
 //! pointers, and those of the list of all. So a walk takes 24 bytes of a record along. A pointer leads to the first of the cells.
-//!
 //! A place behind the last record stands for none: what has no neighbour points there, so no link is ever tested. The memory is
 //! taken at once, but the cells of a record are written when the record is first given: a page of them costs nothing before.
-//!
-//! Four functions follow or change links: `read`, `write`, `hang` and `cut`.
 
-ghost use Rattle.std.specs.Prelude.{◌≡◌, ◌==◌, ◌+◌, ◌<◌, if◌then◌else◌, Some, None, ◌≤◌, ◌++◌, ◌∷◌, [], length, IfOk};
-ghost use Rattle.dine_forks.specs.Lists.{CanHang, cut_nodes_in, hung_nodes_in, links_in, node_at, put_links_in, put_next_in, put_previous_in, record_at, renewed_nodes};
+ghost use Rattle.std.specs.Prelude.{◌≡◌, ◌==◌, ◌+◌, ◌<◌, if◌then◌else◌, Some, None, ◌≤◌, ◌++◌, ◌∷◌, [], length, IfOk, IfSome};
+ghost use Rattle.dine_forks.specs.Lists.{CanHang, HasPlace, blank_node, cut_nodes_in, empty_list, forked_nodes, hung_nodes_in, links_in, node_at, put_next_in, put_previous_in, record_at, renewed_nodes};
 ghost use Rattle.dine_forks.specs.Book.{id_below};
-ghost use Rattle.dine_forks.specs.Blocks.{IsBlock, IsIn, IsSameBlock, IsWritten, blank_node, block_nodes, cell_place, fork_in, label_of};
 ghost use Rattle.dine_forks.specs.declared.lists.block.Part.TheVariants as part;
-ghost use Rattle.dine_forks.specs.Blocks.{link_in, linked_id, number_at, number_in, number_or, put_link, vacant_cell, with_pointer};
+ghost use Rattle.dine_forks.specs.Blocks.{IsBlock, IsIn, IsSameBlock, IsWritten, block_nodes, cell_place, fork_in, label_of, link_in, linked_id, number_at, number_or, put_link, vacant_cell, with_pointer};
+ghost use Rattle.dine_forks.specs.Taking.{HasTaken};
+ghost use Rattle.dine_forks.specs.Walking.{is_reached};
 
-use super::Links;
-use super::cells::{Cells, Lease, Place, Start, allocate, deallocate};
+use super::cells::{Cells, Lease, Place, allocate, deallocate};
+use super::{Links, ListEnds};
 use crate::record::{Fork, ForkId, ForkRecord, Link, Onward};
+use crate::rules::Reach;
 use std::alloc::{AllocError, Global};
+use std::marker::Model;
 
 /// One of the three cells of a record.
 #[derive(Clone, Copy)]
@@ -39,13 +39,6 @@ pub struct Cell {
     first: u16,
     second: u16,
     label: u32,
-}
-
-/// The neighbours of a record in one list, by where they lie.
-#[derive(Clone, Copy)]
-pub struct Hook {
-    previous: Place,
-    next: Place,
 }
 
 // The label of a record: a bit for each thing that is told of its fork, and above these eight bits its number.
@@ -76,14 +69,6 @@ impl Cell {
         }
     }
 
-    // One of the two pointers.
-    #[inline(always)]
-    fn pointer(&self, one: bool) -> Place
-        ensures { result ≡ (if one then self.now.one else self.now.two) }
-    {
-        if one { self.one } else { self.two }
-    }
-
     // Puts one of the two pointers.
     #[inline(always)]
     fn set_pointer(&mut self, one: bool, pointer: Place)
@@ -94,14 +79,6 @@ impl Cell {
         } else {
             self.two = pointer;
         }
-    }
-
-    // The number of the record.
-    #[inline(always)]
-    fn number(&self) -> u32
-        ensures { result ≡ number_in self.now.label }
-    {
-        self.label / 256
     }
 
     // The fork of the record.
@@ -115,11 +92,31 @@ impl Cell {
             token_first: self.label / 4 % 2 == 1,
         }
     }
+
+    // Whether a walk has to do with the record. Bit 0 is `at_first`, bit 2 `token_first`: 5 and 7 have both, 0 and 2 neither.
+    #[inline(always)]
+    #[tactic(auto, using(crate::proofs::Blocks::label_asked, crate::proofs::Blocks::label_lacked))]
+    fn is_reached(&self, reach: Reach, first: bool) -> bool
+        ensures { result ≡ is_reached reach first (fork_in self.now.label) }
+    {
+        let bits = self.label % 8;
+        match (reach, first) {
+            (Reach::Lacked, _) => (bits % 2 == 1) != first,
+            (Reach::Asked, true) => (bits == 5) | (bits == 7),
+            (Reach::Asked, false) => (bits == 0) | (bits == 2),
+            (Reach::All, _) => true,
+        }
+    }
 }
 
-/// The block, with the right to free it.
+/// All records, in their block.
+pub struct Records {
+    block: Block,
+}
+
+/// Where the block lies and what is in it, with the right to free it.
 pub struct Block {
-    base: Start<Cell>,
+    base: Place,
     cells: Cells<Cell>,
     lease: Lease<Cell, Global>,
     alloc: Global,
@@ -147,16 +144,18 @@ impl Block {
 
     // The number of the record at a place, or that of the place which stands for none.
     #[inline(always)]
+    #[tactic(auto, using(crate::proofs::Blocks::filled_in))]
     fn number_of(&self, place: Place) -> u32
         requires block { IsBlock self.now }
         requires within { IsIn self.now.cells.at self.now.room self.now.given place }
         ensures { result ≡ number_at self.now.cells.at place.ptr }
     {
-        self.cells.at(place).number()
+        self.cells.at(place).label / 256
     }
 
     // Whether a slot that is an end of the record at a place is the first one.
     #[inline(always)]
+    #[tactic(auto, using(crate::proofs::Blocks::filled_in, crate::proofs::Blocks::node_is))]
     fn is_first(&self, slot: u32, at: Place) -> bool
         requires block { IsBlock self.now }
         requires within { IsIn self.now.cells.at self.now.room self.now.given at }
@@ -168,6 +167,7 @@ impl Block {
 
     // One of the two pointers of a cell.
     #[inline(always)]
+    #[tactic(auto, using(crate::proofs::Blocks::cell_is, crate::proofs::Blocks::filled, crate::proofs::Blocks::is_cell, crate::proofs::Blocks::link_one, crate::proofs::Blocks::link_two, crate::proofs::Blocks::pointer_in))]
     fn pointer(&self, part: Part, number: u32, one: bool) -> Place
         requires block { IsBlock self.now }
         requires written { IsWritten self.now.room self.now.given number }
@@ -176,11 +176,13 @@ impl Block {
             linked_id self.now.cells.at self.now.room result
             ≡ link_in part one (node_at (block_nodes self.now) record { number = number }) }
     {
-        self.cells.at(self.place(part, number)).pointer(one)
+        let cell = self.cells.at(self.place(part, number));
+        if one { cell.one } else { cell.two }
     }
 
     // Puts one of the two pointers of a cell.
     #[inline(always)]
+    #[tactic(auto, using(crate::proofs::Blocks::filled, crate::proofs::Blocks::pointer_nodes))]
     fn set_pointer(&mut self, part: Part, number: u32, one: bool, pointer: Place)
         requires block { IsBlock self.old }
         requires written { IsWritten self.old.room self.old.given number }
@@ -196,6 +198,7 @@ impl Block {
 
     // Puts one of the two pointers of the cell at a place, which walks read.
     #[inline(always)]
+    #[tactic(auto, using(crate::proofs::Blocks::filled_in, crate::proofs::Blocks::pointer_nodes))]
     fn set_at(&mut self, at: Place, one: bool, pointer: Place)
         requires block { IsBlock self.old }
         requires within { IsIn self.old.cells.at self.old.room self.old.given at }
@@ -222,10 +225,7 @@ impl Block {
             (linked_id self.old.cells.at self.old.room next) (block_nodes self.old) }
     {
         match list {
-            Some(slot) => {
-                let one = self.is_first(slot, at);
-                self.set_at(at, one, next);
-            }
+            Some(slot) => self.set_at(at, self.is_first(slot, at), next),
             None => self.set_pointer(Part::All, number, false, next),
         }
     }
@@ -244,167 +244,34 @@ impl Block {
     {
         match list {
             Some(slot) => {
-                let one = self.is_first(slot, at);
-                self.set_pointer(Part::Previous, number, one, previous);
+                self.set_pointer(Part::Previous, number, self.is_first(slot, at), previous)
             }
             None => self.set_pointer(Part::All, number, true, previous),
         }
     }
 
-    // The record at a place, of this number, stands behind the one at a place in a list, and is the last there.
+    // A neighbour of a record in a list: the next one, or the previous one.
     #[inline(always)]
-    fn set_last(&mut self, list: Option<u32>, at: Place, id: ForkId, back: Place, nowhere: Place)
-        requires block { IsBlock self.old }
-        requires within { id.number < length (block_nodes self.old) }
-        requires at { at.ptr ≡ cell_place self.old.cells.at self.old.room part.Next id.number }
-        requires back { IsIn self.old.cells.at self.old.room self.old.given back }
-        requires nowhere { nowhere.ptr
-            ≡ cell_place self.old.cells.at self.old.room part.Next self.old.room }
-        ensures block { IsSameBlock self.old self.new }
-        ensures nodes { block_nodes self.new ≡ put_links_in list id
-            record { previous = linked_id self.old.cells.at self.old.room back; next = None }
-            (block_nodes self.old) }
-    {
-        match list {
-            Some(slot) => {
-                let one = self.is_first(slot, at);
-                self.set_pointer(Part::Previous, id.number, one, back);
-                self.set_at(at, one, nowhere);
-            }
-            None => {
-                self.set_pointer(Part::All, id.number, true, back);
-                self.set_pointer(Part::All, id.number, false, nowhere);
-            }
-        }
-    }
-
-    // The neighbours of a record in a list.
-    #[inline(always)]
-    fn hook(&self, list: Option<u32>, number: u32) -> Hook
+    fn beside(&self, list: Option<u32>, number: u32, next: bool) -> Place
         requires block { IsBlock self.now }
         requires given { number < self.now.given }
-        ensures previous_in { IsIn self.now.cells.at self.now.room self.now.given result.previous }
-        ensures next_in { IsIn self.now.cells.at self.now.room self.now.given result.next }
-        ensures previous { linked_id self.now.cells.at self.now.room result.previous
-            ≡ (links_in list (node_at (block_nodes self.now) record { number = number })).previous }
-        ensures next { linked_id self.now.cells.at self.now.room result.next
-            ≡ (links_in list (node_at (block_nodes self.now) record { number = number })).next }
+        ensures within { IsIn self.now.cells.at self.now.room self.now.given result }
+        ensures link { linked_id self.now.cells.at self.now.room result
+            ≡ (let links = links_in list (node_at (block_nodes self.now) record { number = number }) in
+            if next then links.next else links.previous) }
     {
         match list {
             Some(slot) => {
+                let part = if next { Part::Next } else { Part::Previous };
                 let one = self.is_first(slot, self.place(Part::Next, number));
-                Hook {
-                    previous: self.pointer(Part::Previous, number, one),
-                    next: self.pointer(Part::Next, number, one),
-                }
+                self.pointer(part, number, one)
             }
-            None => Hook {
-                previous: self.pointer(Part::All, number, true),
-                next: self.pointer(Part::All, number, false),
-            },
+            None => self.pointer(Part::All, number, !next),
         }
     }
 
-    /// Reads a record, and what follows it in a list.
-    #[inline(always)]
-    pub fn read(&self, list: Option<u32>, id: ForkId) -> (ForkRecord, Onward)
-        requires block { IsBlock self.now }
-        requires within { id.number < length (block_nodes self.now) }
-        ensures record { result.0 ≡ record_at (block_nodes self.now) id }
-        ensures id { result.0.id ≡ id }
-        ensures first { result.0.first < 65536 }
-        ensures second { result.0.second < 65536 }
-        ensures next { id_below self.now.room result.1.number
-            ≡ (links_in list (node_at (block_nodes self.now) id)).next }
-    {
-        let cell = self.cells.at(self.place(Part::Next, id.number));
-        let record = ForkRecord::new(id, cell.first as u32, cell.second as u32, cell.fork());
-        let number = self.number_of(self.hook(list, id.number).next);
-        (record, Onward { number })
-    }
-
-    /// Writes a record under its id. It stays where it is in its lists.
-    #[inline(always)]
-    pub fn write(&mut self, content: ForkRecord)
-        requires block { IsBlock self.old }
-        requires within { content.id.number < length (block_nodes self.old) }
-        requires first { content.first < 65536 }
-        requires second { content.second < 65536 }
-        ensures block { IsSameBlock self.old self.new }
-        ensures nodes { block_nodes self.new ≡ renewed_nodes content (block_nodes self.old) }
-    {
-        let number = content.id.number;
-        let at = self.place(Part::Next, number);
-        let cell = self.cells.at_mut(at);
-        cell.first = content.first as u16;
-        cell.second = content.second as u16;
-        cell.label = label(number, content.fork);
-    }
-
-    /// Hangs a record behind the last one of a list.
-    pub fn hang(&mut self, list: Option<u32>, id: ForkId, last: Link)
-        requires block { IsBlock self.old }
-        requires hangs { CanHang (block_nodes self.old) id last }
-        ensures block { IsSameBlock self.old self.new }
-        ensures nodes { block_nodes self.new ≡ hung_nodes_in list id last (block_nodes self.old) }
-    {
-        let behind = last.number_or(self.room);
-        let place = self.place(Part::Next, id.number);
-        let back = self.place(Part::Next, behind);
-        let nowhere = self.place(Part::Next, self.room);
-        self.set_last(list, place, id, back, nowhere);
-        self.set_next(list, back, behind, place);
-    }
-
-    /// Cuts a record out of a list, and returns its neighbours there.
-    pub fn cut(&mut self, list: Option<u32>, id: ForkId) -> Links
-        requires block { IsBlock self.old }
-        requires within { id.number < length (block_nodes self.old) }
-        ensures block { IsSameBlock self.old self.new }
-        ensures links { result ≡ links_in list (node_at (block_nodes self.old) id) }
-        ensures nodes { block_nodes self.new ≡ cut_nodes_in list
-            (links_in list (node_at (block_nodes self.old) id))
-            (block_nodes self.old) }
-    {
-        let hook = self.hook(list, id.number);
-        let previous = self.number_of(hook.previous);
-        let next = self.number_of(hook.next);
-        self.set_next(list, hook.previous, previous, hook.next);
-        self.set_previous(list, hook.next, next, hook.previous);
-        Links {
-            previous: Link::below(self.room, previous),
-            next: Link::below(self.room, next),
-        }
-    }
-
-    /// Takes a block for so many records, of which none is given yet.
-    ///
-    /// The cells of the last place alone are written. It stands for none.
-    pub fn new(alloc: Global, room: u32) -> Result<Block, AllocError>
-        requires { room ≤ 65536 }
-        ensures block { IfOk result (λ b. IsBlock b) }
-        ensures nodes { IfOk result (λ b. block_nodes b ≡ []) }
-        ensures room { IfOk result (λ b. b.room ≡ room) }
-    {
-        let places = room as usize + 1;
-        let (base, mut cells, lease) = allocate(&alloc, places + places + places)?;
-        let nowhere = cells.place(base, room as usize);
-        let none = Cell::vacant(room, nowhere);
-        cells.write(base, room as usize, none);
-        cells.write(base, places + room as usize, none);
-        cells.write(base, places + places + room as usize, none);
-        Ok(Block {
-            base,
-            cells,
-            lease,
-            alloc,
-            room,
-            given: 0,
-        })
-    }
-
-    /// Gives the first record that was never given. It is in no list.
-    pub fn give(&mut self) -> ForkId
+    // Gives the first record that was never given. It is in no list.
+    fn give(&mut self) -> ForkId
         requires block { IsBlock self.old }
         requires left { self.old.given < self.old.room }
         ensures block { IsBlock self.new }
@@ -415,37 +282,31 @@ impl Block {
     {
         let number = self.given;
         let places = self.room as usize + 1;
+        let at = number as usize;
         let vacant = Cell::vacant(number, self.place(Part::Next, self.room));
-        self.cells.write(self.base, number as usize, vacant);
-        self.cells
-            .write(self.base, places + number as usize, vacant);
-        self.cells
-            .write(self.base, places + places + number as usize, vacant);
+        self.cells.write(self.base, at, vacant);
+        self.cells.write(self.base, places + at, vacant);
+        self.cells.write(self.base, places + places + at, vacant);
         self.given = number + 1;
         ForkId { number }
     }
+}
 
-    /// How many records were ever given.
-    #[inline(always)]
-    pub fn given(&self) -> u32
-        requires { IsBlock self.now }
-        ensures { result ≡ length (block_nodes self.now) }
-    {
-        self.given
-    }
+impl Model for Records {
+    ghost use Rattle.dine_forks.specs.Nodes.{Records};
 
-    /// How many records there is room for.
-    #[inline(always)]
-    pub fn room(&self) -> u32
-        ensures { result ≡ self.now.room }
-    {
-        self.room
-    }
+    ghost Value = { Records };
 
-    /// Gives the block back.
-    pub fn free(self)
-        requires { IsBlock self }
-    {
+    ghost use Rattle.dine_forks.specs.Blocks.{IsBlock, block_nodes};
+
+    ghost view = { λ r. record { room = r.block.room; nodes = block_nodes r.block } };
+
+    ghost invariant = { λ r. IsBlock r.block };
+}
+
+impl Drop for Records {
+    fn drop(self) {
+        let Records { block } = self;
         let Block {
             base,
             cells,
@@ -453,8 +314,191 @@ impl Block {
             alloc,
             room,
             given: _,
-        } = self;
+        } = block;
+        deallocate(&alloc, base, 3 * (room as usize + 1), cells, lease);
+    }
+}
+
+impl Records {
+    /// Takes a block for so many records, of which none is given yet. Of its cells only those of the last place are written,
+    /// which stands for none. An error is want of memory.
+    pub fn new(alloc: Global, room: u32) -> Result<Records, AllocError>
+        requires { room ≤ 65536 }
+        ensures { IfOk result (λ r. r ≡ record { room = room; nodes = [] }) }
+    {
         let places = room as usize + 1;
-        deallocate(&alloc, base, places + places + places, cells, lease);
+        let (base, mut cells, lease) = allocate(&alloc, places + places + places)?;
+        let none = Cell::vacant(room, cells.place(base, room as usize));
+        cells.write(base, room as usize, none);
+        cells.write(base, places + room as usize, none);
+        cells.write(base, places + places + room as usize, none);
+        let block = Block {
+            base,
+            cells,
+            lease,
+            alloc,
+            room,
+            given: 0,
+        };
+        Ok(Records { block })
+    }
+
+    /// How many records there is room for.
+    #[inline(always)]
+    pub fn room(&self) -> u32
+        ensures { result ≡ self.now.room }
+    {
+        self.block.room
+    }
+
+    /// Takes the last vacant record out of its list. Where none is vacant it is the first that was never given, and where each
+    /// was given there is none, and nothing changes.
+    #[inline(always)]
+    #[tactic(auto, using(crate::proofs::Blocks::length_nodes))]
+    pub fn take(&mut self, vacant: &mut ListEnds) -> Option<ForkId>
+        requires last { HasPlace self.old.nodes vacant.old.last }
+        requires some { IfSome vacant.old.last (λ _. 1 ≤ vacant.old.degree) }
+        requires end { IfSome vacant.old.last (λ id.
+            (node_at self.old.nodes id).all.next ≡ None) }
+        requires none { vacant.old.last ≡ None → vacant.old ≡ empty_list }
+        ensures { HasTaken self.old vacant.old result self.new vacant.new }
+    {
+        match vacant.last.get() {
+            Some(id) => {
+                let mut links = self.cut(None, id);
+                // It was the last one, so what follows it isn't asked.
+                links.next = Link::NONE;
+                *vacant = vacant.without_one(links);
+                Some(id)
+            }
+            None => {
+                if self.block.given == self.block.room {
+                    return None;
+                }
+                Some(self.block.give())
+            }
+        }
+    }
+
+    /// A record. No link is followed.
+    #[inline(always)]
+    #[tactic(auto, using(crate::proofs::Blocks::below_room, crate::proofs::Blocks::length_nodes, crate::proofs::Blocks::record_is))]
+    pub fn record(&self, id: ForkId) -> ForkRecord
+        requires { id.number < length self.now.nodes }
+        ensures record { result ≡ record_at self.now.nodes id }
+        ensures id { result.id ≡ id }
+        ensures first { result.first < 65536 }
+        ensures second { result.second < 65536 }
+    {
+        let cell = self.block.cells.at(self.block.place(Part::Next, id.number));
+        ForkRecord::new(id, cell.first as u32, cell.second as u32, cell.fork())
+    }
+
+    /// Reads a record, and what follows it in a list.
+    #[inline(always)]
+    #[tactic(auto, using(crate::proofs::Blocks::below_room, crate::proofs::Blocks::length_nodes))]
+    pub fn read(&self, list: Option<u32>, id: ForkId) -> (ForkRecord, Onward)
+        requires { id.number < length self.now.nodes }
+        ensures record { result.0 ≡ record_at self.now.nodes id }
+        ensures next { id_below self.now.room result.1.number
+            ≡ (links_in list (node_at self.now.nodes id)).next }
+    {
+        let number = self
+            .block
+            .number_of(self.block.beside(list, id.number, true));
+        (self.record(id), Onward { number })
+    }
+
+    /// Whether a walk has to do with a record. `first` says whether its slot is the first end.
+    #[inline(always)]
+    #[tactic(auto, using(crate::proofs::Blocks::below_room, crate::proofs::Blocks::length_nodes))]
+    pub fn is_reached(&self, reach: Reach, id: ForkId, first: bool) -> bool
+        requires { id.number < length self.now.nodes }
+        ensures { result ≡ is_reached reach first (record_at self.now.nodes id).fork }
+    {
+        let cell = self.block.cells.at(self.block.place(Part::Next, id.number));
+        cell.is_reached(reach, first)
+    }
+
+    /// The record that a list goes on with, if it does. No record is looked at.
+    #[inline(always)]
+    pub fn reached(&self, onward: Onward) -> Option<ForkId>
+        ensures { result ≡ id_below self.now.room onward.number }
+    {
+        let number = onward.number;
+        (number < self.block.room).then_some(ForkId { number })
+    }
+
+    /// Writes a record under its id. It stays where it is in its lists.
+    #[inline(always)]
+    pub fn write(&mut self, content: ForkRecord)
+        requires within { content.id.number < length self.old.nodes }
+        requires first { content.first < 65536 }
+        requires second { content.second < 65536 }
+        ensures { self.new ≡ record self.old { nodes = renewed_nodes content self.old.nodes } }
+    {
+        let at = self.block.place(Part::Next, content.id.number);
+        let cell = self.block.cells.at_mut(at);
+        cell.first = content.first as u16;
+        cell.second = content.second as u16;
+        // Its number is there already: so a walk needn't keep it.
+        cell.label = label(cell.label / 256, content.fork);
+    }
+
+    /// Writes the fork of a record, and nothing else.
+    #[inline(always)]
+    pub fn write_fork(&mut self, id: ForkId, fork: Fork)
+        requires { id.number < length self.old.nodes }
+        ensures { self.new ≡ record self.old { nodes = forked_nodes self.old.nodes id fork } }
+    {
+        let record = self.record(id);
+        self.write(ForkRecord { fork, ..record });
+    }
+
+    /// Hangs a record behind the last one of a list: that of a slot which is an end, that of all, or that of the vacant ones.
+    #[tactic(auto, using(crate::proofs::Blocks::below_room, crate::proofs::Blocks::id_has, crate::proofs::Blocks::length_nodes, crate::proofs::Blocks::is_in, crate::proofs::Blocks::is_in_same, crate::proofs::Blocks::last_written, crate::proofs::Blocks::number_or_written, crate::proofs::Blocks::written_same))]
+    pub fn hang(&mut self, list: Option<u32>, id: ForkId, last: Link)
+        requires { CanHang self.old.nodes id last }
+        ensures { self.new ≡ record self.old { nodes = hung_nodes_in list id last self.old.nodes } }
+    {
+        let behind = last.number_or(self.block.room);
+        let place = self.block.place(Part::Next, id.number);
+        let back = self.block.place(Part::Next, behind);
+        let nowhere = self.block.place(Part::Next, self.block.room);
+        match list {
+            Some(slot) => {
+                let one = self.block.is_first(slot, place);
+                self.block.set_pointer(Part::Previous, id.number, one, back);
+                self.block.set_at(place, one, nowhere);
+                self.block.set_next(list, back, behind, place);
+            }
+            None => {
+                self.block.set_pointer(Part::All, id.number, true, back);
+                self.block.set_pointer(Part::All, id.number, false, nowhere);
+                self.block.set_next(list, back, behind, place);
+            }
+        }
+    }
+
+    /// Cuts a record out of a list, and returns its neighbours there.
+    #[tactic(auto, using(crate::proofs::Blocks::length_nodes))]
+    pub fn cut(&mut self, list: Option<u32>, id: ForkId) -> Links
+        requires { id.number < length self.old.nodes }
+        ensures links { result ≡ links_in list (node_at self.old.nodes id) }
+        ensures nodes { self.new ≡ record self.old {
+          nodes = cut_nodes_in list
+              (links_in list (node_at self.old.nodes id)) self.old.nodes;
+        } }
+    {
+        let before = self.block.beside(list, id.number, false);
+        let after = self.block.beside(list, id.number, true);
+        let previous = self.block.number_of(before);
+        let next = self.block.number_of(after);
+        self.block.set_next(list, before, previous, after);
+        self.block.set_previous(list, after, next, before);
+        Links {
+            previous: Link::below(self.block.room, previous),
+            next: Link::below(self.block.room, next),
+        }
     }
 }

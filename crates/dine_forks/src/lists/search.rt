@@ -27,12 +27,12 @@ impl Lists {
                 if record.second == other {
                     return (next, read);
                 }
-                next = self.reached(self.onward(slot, id));
+                next = self.next_of(slot, id);
             } else {
                 if record.first == other {
                     return (next, read);
                 }
-                next = self.reached(self.onward(slot, id));
+                next = self.next_of(slot, id);
             }
         }
         (None, read)

@@ -105,6 +105,23 @@ pub fn neighbours_in(
         .collect(alloc)
 }
 
+/// Those of the other ends that keep the task from eating.
+pub fn blockers_in(
+    alloc: Global,
+    order: &[Diner],
+    conflicts: &[(Task, Task)],
+    task: Task,
+) -> Result<Vec<Task>, AllocError>
+    ensures { IfOk result (λ tasks.
+        tasks.items ≡ filter (keeps_waiting order.now task) (neighbours_in conflicts.now task)) }
+{
+    conflicts
+        .iter()
+        .filter_map(|conflict| other_end(*conflict, task))
+        .filter(|other| keeps_waiting(order, task, *other))
+        .collect(alloc)
+}
+
 /// Whether a conflict between `a` and `b` stands.
 pub fn are_in_conflict(conflicts: &[(Task, Task)], a: Task, b: Task) -> bool
     ensures { result ≡ list_any (is_between a b) conflicts.now }

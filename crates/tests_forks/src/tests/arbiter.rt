@@ -18,14 +18,15 @@ struct Case {
     steps: &'static str,
 }
 
-const CASES: [Case; 11] = [
+const CASES: [Case; 9] = [
     Case {
         name: "a neighbour waits for the meal",
         limits: (64, 256),
         steps: "messages -> 0; next -> none; join -> joined 0.0; join -> joined 1.1; \
             conflict 0.0 1.1 -> done; hungry 0.0 -> done, 2; begin 0.0 -> done; \
-            hungry 1.1 -> done, 1; begin 1.1 -> refused not-yet; finish 0.0 -> done, 1; \
-            begin 1.1 -> done; state 1.1 -> eating; ready 1.1 -> no; clock -> 3; tasks -> 64",
+            hungry 1.1 -> done, 1; begin 1.1 -> refused not-yet; blockers 1.1 -> 0.0; \
+            blockers 0.0 -> ; blockers 2.2 -> none; finish 0.0 -> done, 1; begin 1.1 -> done; \
+            state 1.1 -> eating; ready 1.1 -> no; clock -> 3; tasks -> 64",
     },
     Case {
         name: "a book lends a record for each conflict, and a task is told its neighbours",
@@ -42,14 +43,8 @@ const CASES: [Case; 11] = [
             join -> joined 4.4; conflict 0.0 1.1 -> done; conflict 1.1 2.2 -> done; \
             conflict 2.2 3.3 -> done; conflict 3.3 4.4 -> done; conflict 4.4 0.0 -> done; \
             hungry 0.0 -> done, 4; hungry 1.1 -> done, 3; hungry 2.2 -> done, 3; \
-            hungry 3.3 -> done, 3; hungry 4.4 -> done, 2; next -> 0.0; begin 0.0 -> done; \
-            next -> none",
-    },
-    Case {
-        name: "a slot tells the task that sits there",
-        limits: (64, 256),
-        steps: "join -> joined 0.0; join -> joined 1.1; leave 0.0 -> done; seat 0 -> none; \
-            seat 1 -> 1.1; seat 64 -> none",
+            hungry 3.3 -> done, 3; hungry 4.4 -> done, 2; blockers 2.2 -> 1.1; \
+            blockers 4.4 -> 3.3 0.0; next -> 0.0; begin 0.0 -> done; next -> none; all-ready -> ",
     },
     Case {
         name: "a hungry neighbour is found at either end",
@@ -72,8 +67,11 @@ const CASES: [Case; 11] = [
         name: "a task that joins gets the least free slot",
         limits: (4096, 1),
         steps: "all -> join; leave 2000.2000 -> done; leave 64.64 -> done; \
-            leave 4095.4095 -> done; join -> joined 64.4096; join -> joined 2000.4097; \
-            join -> joined 4095.4098; join -> refused full",
+            leave 4095.4095 -> done; seat 64 -> none; seat 65 -> 65.65; seat 4096 -> none; \
+            join -> joined 64.4096; join -> joined 2000.4097; \
+            join -> joined 4095.4098; join -> refused full; hungry 64.4096 -> done; \
+            hungry 4095.4098 -> done; hungry 65.65 -> done; hungry 63.63 -> done; \
+            all-ready -> 63.63 65.65 64.4096 4095.4098",
     },
     // The first gets its fork, and keeps it from the next two. Of these one gets the fork that is given up, and one that of a
     // conflict that ends. Then one withdraws, and the other gets the fork. That one gives it back, and lacks it, which isn't told.
@@ -108,14 +106,6 @@ const CASES: [Case; 11] = [
             fork -> of 0 and 1, dirty at 1, token at 0; begin 1.1 -> done; \
             hungry 0.0 -> done, 1; begin 0.0 -> refused not-yet; withdraw 0.0 -> done, 1; \
             hungry 0.0 -> done, 1; finish 1.1 -> done, 1; begin 0.0 -> done",
-    },
-    Case {
-        name: "only a hungry task withdraws",
-        limits: (64, 256),
-        steps: "join -> joined 0.0; state 0.0 -> thinking; withdraw 0.0 -> refused thinking; \
-            state 0.0 -> thinking; hungry 0.0 -> done; state 0.0 -> hungry; \
-            withdraw 0.0 -> done; state 0.0 -> thinking; begin 0.0 -> refused thinking; \
-            leave 0.0 -> done; state 0.0 -> none; withdraw 0.0 -> refused unknown",
     },
 ];
 
@@ -215,27 +205,27 @@ fn says_lacking(arbiter: &Arbiter, word: u32, out: &mut Vec<u8>) -> Result<(), A
     }
 }
 
-fn says_neighbours(
-    alloc: Global,
-    arbiter: &Arbiter,
-    task: Task,
-    out: &mut Vec<u8>,
-) -> Result<(), AllocError> {
-    match arbiter.neighbours(alloc, task)? {
-        Some(tasks) => {
-            for (place, neighbour) in tasks.iter().enumerate() {
-                out.extend_from_slice(if place == 0 { b"" } else { b" " })?;
-                neighbour.write_to(out)?;
-            }
-            Ok(())
-        }
-        None => out.extend_from_slice(b"none"),
+fn says_tasks(tasks: Option<Vec<Task>>, out: &mut Vec<u8>) -> Result<(), AllocError> {
+    let Some(tasks) = tasks else {
+        return out.extend_from_slice(b"none");
+    };
+    for (place, task) in tasks.iter().enumerate() {
+        out.extend_from_slice(if place == 0 { b"" } else { b" " })?;
+        task.write_to(out)?;
     }
+    Ok(())
 }
 
 // What a question about the whole table is answered, or about a number behind it.
-fn says(arbiter: &Arbiter, asked: &str, of: u32, out: &mut Vec<u8>) -> Result<(), AllocError> {
+fn says(
+    alloc: Global,
+    arbiter: &Arbiter,
+    asked: &str,
+    of: u32,
+    out: &mut Vec<u8>,
+) -> Result<(), AllocError> {
     match asked {
+        "all-ready" => says_tasks(Some(arbiter.ready(alloc)?), out),
         "messages" => says_number(arbiter.messages(), out),
         "next" => says_task(arbiter.next_ready(), out),
         "clock" => push_number(out, arbiter.clock()),
@@ -260,7 +250,8 @@ fn says_of(
         "state" => says_state(arbiter.state(task), out),
         "ready" if arbiter.is_ready(task) => out.extend_from_slice(b"yes"),
         "ready" => out.extend_from_slice(b"no"),
-        _ => says_neighbours(alloc, arbiter, task, out),
+        "blockers" => says_tasks(arbiter.blockers(alloc, task)?, out),
+        _ => says_tasks(arbiter.neighbours(alloc, task)?, out),
     }
 }
 
@@ -294,7 +285,7 @@ fn takes(
     let (question, of) = asked.split_once(' ').unwrap_or((asked, "0"));
     match Task::read(of) {
         Some(task) => says_of(rt.alloc(), arbiter, question, task, out),
-        None => says(arbiter, question, of.parse::<u32>().unwrap_or(0), out),
+        None => says(rt.alloc(), arbiter, question, of.parse().unwrap_or(0), out),
     }
 }
 

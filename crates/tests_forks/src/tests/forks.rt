@@ -4,7 +4,7 @@ ghost use Rattle.std.specs.Prelude.{◌≡◌, ◌<◌, ◌≤◌, IfOk};
 ghost use Rattle.dine_forks.specs.Book.{FitsBook};
 
 use crate::tests::same::same;
-use dine_forks::{Fork, ForkBook};
+use dine_forks::{End, Fork, ForkBook, Reach, Rules, Sent};
 use std::alloc::Global;
 use std::test::Fail;
 
@@ -54,23 +54,8 @@ fn links(book: &mut ForkBook, slots: u32, link: &Link) -> bool
     }
     match book.find(a, b) {
         Some(_) => false,
-        None => match book.link(a, b, fork) {
-            Some(_) => true,
-            None => false,
-        },
+        None => book.link(a, b, fork).is_some(),
     }
-}
-
-fn links_all(book: &mut ForkBook, slots: u32, rows: &[Link]) -> bool
-    requires { book.old.slots ≡ slots }
-    ensures { book.new.slots ≡ slots }
-{
-    for link in rows {
-        if !links(book, slots, link) {
-            return false;
-        }
-    }
-    true
 }
 
 // A book with these records. What is known of them is not told: a test names each by its two ends.
@@ -79,8 +64,10 @@ fn book_of(alloc: Global, slots: u32, room: u32, rows: &[Link]) -> Result<ForkBo
     ensures { IfOk result (λ book. book.slots ≡ slots) }
 {
     let mut book = ForkBook::new(alloc, slots, room)?;
-    if !links_all(&mut book, slots, rows) {
-        return Err("there is room for each".into());
+    for link in rows {
+        if !links(&mut book, slots, link) {
+            return Err("there is room for each".into());
+        }
     }
     Ok(book)
 }
@@ -104,18 +91,14 @@ fn ends_between(book: &ForkBook, a: u32, b: u32) -> Option<(u32, u32)>
 }
 
 // Puts a fork between two slots that have a record.
-fn puts(book: &mut ForkBook, a: u32, b: u32, fork: Fork) -> bool
+fn puts(book: &mut ForkBook, a: u32, b: u32, fork: Fork) -> Option<()>
     requires first { a < book.old.slots }
     requires second { b < book.old.slots }
     ensures { book.new.slots ≡ book.old.slots }
 {
-    match book.find(a, b) {
-        Some(id) => {
-            book.set_fork(id, fork);
-            true
-        }
-        None => false,
-    }
+    let id = book.find(a, b)?;
+    book.set_fork(id, fork);
+    Some(())
 }
 
 // Takes the record of two slots out, and tells its fork.
@@ -124,10 +107,8 @@ fn unlinked(book: &mut ForkBook, a: u32, b: u32) -> Option<Fork>
     requires second { b < book.old.slots }
     ensures { book.new.slots ≡ book.old.slots }
 {
-    match book.find(a, b) {
-        Some(id) => Some(book.unlink(id)),
-        None => None,
-    }
+    let id = book.find(a, b)?;
+    Some(book.unlink(id))
 }
 
 // Whether a slot holds all its forks, which are in use then.
@@ -213,11 +194,8 @@ fn holders_with(book: &mut ForkBook, fork: Fork) -> Option<[bool; 3]>
     requires { 3 ≤ book.old.slots }
     ensures { book.new.slots ≡ book.old.slots }
 {
-    if puts(book, 0, 1, fork) {
-        Some(holders(book))
-    } else {
-        None
-    }
+    puts(book, 0, 1, fork)?;
+    Some(holders(book))
 }
 
 #[test]
@@ -254,6 +232,34 @@ fn what_is_left_of_a_walk_keeps_its_order(rt: HostRuntime) -> Result<(), Fail> {
     Ok(())
 }
 
+// Rules by which each fork that is reached goes to the other end, clean.
+struct Sends;
+
+impl Rules for Sends {
+    ghost use Rattle.dine_forks.specs.declared.rules.Reach.TheVariants.{Asked};
+    ghost use Rattle.std.specs.Prelude.{false, not, true};
+
+    ghost places = { λ _. 65536 };
+
+    ghost reach = { λ _. Asked };
+
+    ghost meets = { λ _ _ _. true };
+
+    ghost forks = { λ _ _ _ fork. record fork { at_first = not fork.at_first; dirty = false } };
+
+    fn reach(&self) -> Reach {
+        Reach::Asked
+    }
+
+    fn met(&self, _end: End, fork: Fork) -> Fork {
+        fork
+    }
+
+    fn sent(&self, _end: End, _other: u32, _fork: Fork) -> Sent {
+        Sent::Fork
+    }
+}
+
 const FIVE_OF_WHICH_TWO_ARE_SENT: [Link; 5] = [
     (0, 1, SECOND_IS_ASKED),
     (1, 2, FIRST_IS_ASKED),
@@ -273,22 +279,33 @@ fn forks_of_the_second(book: &ForkBook) -> [Option<Fork>; 3]
     ]
 }
 
+// Sends the forks of a slot that are asked for, and tells how many those are.
+fn gives_up(book: &mut ForkBook, slot: u32) -> u32
+    requires slot { slot < book.old.slots }
+    requires few { book.old.slots ≤ 65536 }
+    ensures { book.new.slots ≡ book.old.slots }
+{
+    let asked = book.count(slot).asked;
+    book.walk(slot, &Sends);
+    asked
+}
+
 #[test]
 fn a_slot_gives_up_the_forks_that_are_asked_for(rt: HostRuntime) -> Result<(), Fail> {
     let mut book = book_of(rt.alloc(), 5, 5, &FIVE_OF_WHICH_TWO_ARE_SENT)?;
     // Two are sent, the third is kept, the fourth is the neighbour's, and the fifth is elsewhere.
-    same(&rt, book.give_up(1), 2);
+    same(&rt, gives_up(&mut book, 1), 2);
     same(
         &rt,
         forks_of_the_second(&book),
-        [Some(CLEAN), Some(G), Some(F)],
+        [Some(CLEAN), Some(G), Some(CLEAN)],
     );
     same(&rt, fork_between(&book, 4, 1), Some(CLEAN));
     same(&rt, fork_between(&book, 2, 3), Some(FIRST_IS_ASKED));
     // The numbers of forks follow: the slots 0 and 2 have all of theirs now.
     same(&rt, holders(&book), [true, false, true]);
     // Nobody asks for the one that it kept.
-    same(&rt, book.give_up(1), 0);
+    same(&rt, gives_up(&mut book, 1), 0);
     Ok(())
 }
 
@@ -310,18 +327,16 @@ fn forks_on_either_side(book: &ForkBook) -> [Option<Fork>; 2]
     [fork_between(book, 0, 1), fork_between(book, 1, 2)]
 }
 
-const ONE_OF_TWO_IS_ASKED: [Link; 2] = [(1, 0, CLEAN), (1, 2, FIRST_IS_ASKED)];
-
 // As `FIRST_IS_ASKED`, which is dirty.
 const IN_USE: [Option<Fork>; 2] = [Some(F), Some(FIRST_IS_ASKED)];
 
 #[test]
 fn forks_in_use_are_dirty_until_they_are_sent(rt: HostRuntime) -> Result<(), Fail> {
-    let mut book = book_of(rt.alloc(), 3, 2, &ONE_OF_TWO_IS_ASKED)?;
+    let mut book = book_of(rt.alloc(), 3, 2, &[(1, 0, CLEAN), (1, 2, FIRST_IS_ASKED)])?;
     same(&rt, takes_in_use(&mut book, 1), true);
     same(&rt, forks_on_either_side(&book), IN_USE);
     // The first is kept, and the second sent, clean.
-    same(&rt, book.give_up(1), 1);
+    same(&rt, gives_up(&mut book, 1), 1);
     same(&rt, forks_on_either_side(&book), [Some(F), Some(G)]);
     Ok(())
 }
@@ -340,13 +355,11 @@ fn a_new_record_of_a_slot_with_forks_in_use_has_its_own_dirt(rt: HostRuntime) ->
     Ok(())
 }
 
-const TWO_WITH_THE_SECOND: [Link; 2] = [(1, 0, CLEAN), (1, 2, CLEAN)];
-
 #[test]
 fn a_fork_in_use_is_changed_alone_and_taken_out_dirty(rt: HostRuntime) -> Result<(), Fail> {
-    let mut book = book_of(rt.alloc(), 3, 2, &TWO_WITH_THE_SECOND)?;
+    let mut book = book_of(rt.alloc(), 3, 2, &[(1, 0, CLEAN), (1, 2, CLEAN)])?;
     same(&rt, takes_in_use(&mut book, 1), true);
-    same(&rt, puts(&mut book, 1, 2, CLEAN), true);
+    same(&rt, puts(&mut book, 1, 2, CLEAN).is_some(), true);
     same(&rt, fork_between(&book, 1, 2), Some(CLEAN));
     same(&rt, unlinked(&mut book, 1, 0), Some(F));
     Ok(())
@@ -377,16 +390,5 @@ fn a_search_reads_the_list_of_the_end_with_fewer_records(rt: HostRuntime) -> Res
     same(&rt, found(&book, 2, 1), (None, 1));
     same(&rt, found(&book, 1, 3), (Some((3, 1)), 2));
     same(&rt, found(&book, 3, 1), (Some((3, 1)), 2));
-    Ok(())
-}
-
-#[test]
-fn a_clean_fork_is_given_back(rt: HostRuntime) -> Result<(), Fail> {
-    let mut book = ForkBook::new(rt.alloc(), 2, 1)?;
-    let x = book.link(0, 1, CLEAN).ok_or("an empty book has room")?;
-    book.give_back(x, 0, 1, false);
-    same(&rt, book.fork(x), H);
-    same(&rt, book.holds_all(1), true);
-    same(&rt, book.holds_all(0), false);
     Ok(())
 }

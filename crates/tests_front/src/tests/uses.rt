@@ -68,10 +68,12 @@ fn gives(rt: &impl Abort, broker: &mut Broker, client: Task, answer: Result<(), 
 }
 
 // A second client waits until the first gives back what both asked for.
-fn gives_in_turn(rt: &impl Abort, broker: &mut Broker) {
+fn gives_in_turn(rt: &impl Host, broker: &mut Broker) {
     let a = asks(rt, broker, &[]);
     let b = asks(rt, broker, &[a]);
     same(rt, broker.next_client(), Some(a));
+    let found = broker.waits_for(rt.alloc(), b).ok().flatten();
+    same(rt, found.as_deref(), Some([a].as_slice()));
     gives(rt, broker, b, Err(Fault::Refused(Refusal::NotYet)));
     gives(rt, broker, a, Ok(()));
     same(rt, broker.next_client(), None);

@@ -5,80 +5,70 @@ pub mod histories;
 use crate::tests::same::{same, same_at};
 use dine_journal::{Answer, Hall, Journal, PlainTable, TextFault};
 use dine_replay::AuditFault::{self, Header, Line, Memory, Read, Wrong};
-use dine_replay::audit;
+use dine_replay::{audit, replay};
+use dine_words::JournalVersion::{self, One, Two};
 use dine_words::Reply::Done;
 use dine_words::State::{self, Hungry, Thinking};
 use dine_words::{Entry, Marked, Task};
 use histories::plays;
+use std::alloc::AllocError;
 use std::process::Abort;
-use tests_kit::{A, B, Host, JOURNAL, LIMITS, TURNS};
+use tests_kit::{A, B, Host, JOURNAL, LIMITS, OVERTAKING, TURNS};
+
+// The tasks that were asked for.
+type Listed = Result<Option<Vec<Task>>, AllocError>;
 
 const NOBODY: Task = Task { slot: 5, born: 5 };
 
-// A task, its state, whether it is ready, whether it would wait, and its neighbours.
-type Told = (Task, Option<State>, bool, bool, Option<&'static [Task]>);
+// A task, its state, whether it is ready, and if it is present its neighbours, and those for whom it waits.
+type Told = (Task, Option<State>, bool, Option<[&'static [Task]; 2]>);
 
-// What a row shows, the entries of calls, and what a hall and the plain table tell then: the clock, who is next, and of some
-// tasks.
+// What a row shows, the entries of calls, and what a hall and the plain table tell then: the clock, who may begin, and of
+// some tasks.
 type Case = (
     &'static str,
     &'static str,
     u64,
-    Option<Task>,
+    &'static [Task],
     &'static [Told],
 );
 
-const CASES: [Case; 6] = [
-    (
-        "nothing was done",
-        "",
-        0,
-        None,
-        &[(A, None, false, false, None)],
-    ),
+const CASES: [Case; 5] = [
+    ("nothing was done", "", 0, &[], &[(A, None, false, None)]),
     (
         "a refused call is an entry too",
         "7 join -> joined 0.0; 7 begin 0.0 -> refused thinking",
         1,
-        None,
+        &[],
         &[
-            (A, Some(Thinking), false, false, Some(&[])),
-            (NOBODY, None, false, false, None),
+            (A, Some(Thinking), false, Some([&[], &[]])),
+            (NOBODY, None, false, None),
         ],
     ),
     (
         "one who is hungry by itself is next",
         "4294967295 join -> joined 0.0; 0 hungry 0.0 -> done",
         1,
-        Some(A),
-        &[(A, Some(Hungry), true, false, Some(&[]))],
+        &[A],
+        &[(A, Some(Hungry), true, Some([&[], &[]]))],
     ),
     (
         "a hungry neighbour of an eater would wait",
         "0 join -> joined 0.0; 0 join -> joined 1.1; 0 conflict 0.0 1.1 -> done; \
         0 hungry 0.0 -> done (2); 0 begin 0.0 -> done; 0 hungry 1.1 -> done (1)",
         2,
-        None,
-        &[(B, Some(Hungry), false, true, Some(&[A]))],
-    ),
-    (
-        "once the eater has finished it would not wait",
-        "0 join -> joined 0.0; 0 join -> joined 1.1; 0 conflict 0.0 1.1 -> done; \
-        0 hungry 0.0 -> done (2); 0 begin 0.0 -> done; 0 hungry 1.1 -> done (1); \
-        0 finish 0.0 -> done (1)",
-        3,
-        Some(B),
-        &[(B, Some(Hungry), true, false, Some(&[A]))],
+        &[],
+        &[(B, Some(Hungry), false, Some([&[A], &[A]]))],
     ),
     (
         "of two who are hungry the one with the earlier meal is next",
         "0 join -> joined 0.0; 0 join -> joined 1.1; 0 conflict 0.0 1.1 -> done; \
         0 hungry 1.1 -> done; 0 hungry 0.0 -> done (3)",
         2,
-        Some(A),
+        &[A],
         &[
-            (A, Some(Hungry), true, false, Some(&[B])),
-            (B, Some(Hungry), false, true, Some(&[A])),
+            (A, Some(Hungry), true, Some([&[B], &[]])),
+            (B, Some(Hungry), false, Some([&[A], &[A]])),
         ],
     ),
 ];
@@ -87,10 +77,8 @@ const CASES: [Case; 6] = [
 fn entry_of(rt: &impl Abort, text: &str) -> (Entry, u32) {
     let (entry, messages) = text.split_once(" (").unwrap_or((text, "0)"));
     let messages = messages.strip_suffix(")").unwrap_or("").parse().ok();
-    (
-        Entry::read(entry).expect(rt, "an entry"),
-        messages.expect(rt, "a number"),
-    )
+    let entry = Entry::read(entry).expect(rt, "an entry");
+    (entry, messages.expect(rt, "a number"))
 }
 
 // Makes the call of an entry, which gets this place and the entry's reply, and is there in the history.
@@ -117,39 +105,42 @@ fn hall_after(rt: &impl Host, entries: &str) -> Hall {
     hall
 }
 
-fn hall_tells(rt: &impl Host, name: &str, hall: &Hall, wanted: &Told) {
-    let (task, state, is_ready, would_wait, beside) = *wanted;
-    let found = (hall.state(task), hall.is_ready(task));
-    same_at(rt, name, found, (state, is_ready));
-    same_at(rt, name, hall.would_wait(task), would_wait);
-    let found = hall.neighbours(rt.alloc(), task);
-    let found = found.ok().expect(rt, "memory");
-    same_at(rt, name, found.as_deref(), beside);
+fn both_tell(rt: &impl Host, name: &str, hall: &Hall, table: &PlainTable, wanted: &Told) {
+    let (task, state, is_ready, told) = *wanted;
+    same_at(rt, name, [hall.state(task), table.state(task)], [state; 2]);
+    let found = [hall.is_ready(task), table.is_ready(task)];
+    same_at(rt, name, found, [is_ready; 2]);
+    let [beside, blockers] = told.unwrap_or([&[]; 2]);
+    same_at(rt, name, hall.would_wait(task), !blockers.is_empty());
+    let alloc = rt.alloc();
+    let (found, plain) = (hall.neighbours(alloc, task), table.neighbours(alloc, task));
+    lists(rt, name, found, told.map(|_| beside));
+    lists(rt, name, plain, told.map(|_| beside));
+    let (found, plain) = (hall.blockers(alloc, task), table.blockers(alloc, task));
+    lists(rt, name, found, told.map(|_| blockers));
+    lists(rt, name, plain, told.map(|_| blockers));
 }
 
-fn table_tells(rt: &impl Host, name: &str, table: &PlainTable, wanted: &Told) {
-    let (task, state, is_ready, _, beside) = *wanted;
-    let found = (table.state(task), table.is_ready(task));
-    same_at(rt, name, found, (state, is_ready));
-    let found = table.neighbours(rt.alloc(), task);
-    let found = found.ok().expect(rt, "memory");
-    same_at(rt, name, found.as_deref(), beside);
+// Tasks are listed as they should.
+fn lists(rt: &impl Abort, name: &str, found: Listed, wanted: Option<&[Task]>) {
+    same_at(rt, name, found.ok().expect(rt, "memory").as_deref(), wanted);
 }
 
 fn check(rt: &impl Host, case: &Case) {
-    let (name, entries, clock, next, rows) = *case;
+    let (name, entries, clock, ready, rows) = *case;
     let mut hall = hall_after(rt, entries);
     let table = plays(rt, LIMITS, entries);
     same_at(rt, name, hall.history().is_empty(), entries.is_empty());
     same_at(rt, name, hall.reserve(), Ok(()));
     same_at(rt, name, hall.has_room(), true);
     same_at(rt, name, [hall.limits(), table.limits()], [LIMITS; 2]);
-    same_at(rt, name, (hall.clock(), hall.next_ready()), (clock, next));
-    let found = (table.clock(), table.next_ready());
-    same_at(rt, name, found, (clock, next));
+    let wanted = (clock, ready.first().copied());
+    same_at(rt, name, (hall.clock(), hall.next_ready()), wanted);
+    same_at(rt, name, (table.clock(), table.next_ready()), wanted);
+    lists(rt, name, hall.ready(rt.alloc()).map(Some), Some(ready));
+    lists(rt, name, table.ready(rt.alloc()).map(Some), Some(ready));
     for wanted in rows {
-        hall_tells(rt, name, &hall, wanted);
-        table_tells(rt, name, &table, wanted);
+        both_tell(rt, name, &hall, &table, wanted);
     }
 }
 
@@ -158,15 +149,6 @@ fn a_hall_writes_its_history_and_both_tell_of_their_tasks(rt: HostRuntime) {
     for case in &CASES {
         check(&rt, case);
     }
-}
-
-#[test]
-fn a_journal_has_the_entries_of_its_hall(rt: HostRuntime) {
-    let (_, entries, ..) = CASES[1];
-    let journal = hall_after(&rt, entries).into_journal();
-    same(&rt, (journal.limits(), journal.is_empty()), (LIMITS, false));
-    let second = Entry::read("7 begin 0.0 -> refused thinking");
-    same(&rt, (journal.entry(1), journal.entry(2)), (second, None));
 }
 
 // The text that a journal is written as.
@@ -193,10 +175,12 @@ fn is_audited(rt: &impl Host, journal: &Journal) {
 }
 
 #[test]
-fn a_journal_is_written(rt: HostRuntime) {
+fn a_journal_has_the_entries_of_its_hall_and_is_written(rt: HostRuntime) {
     let journal = hall_after(&rt, TURNS).into_journal();
-    let text = text_of(&rt, &journal);
-    same(&rt, text.as_slice(), JOURNAL.as_bytes());
+    same(&rt, (journal.limits(), journal.is_empty()), (LIMITS, false));
+    let last = Entry::read("0 begin 1.1 -> done");
+    same(&rt, (journal.entry(8), journal.entry(9)), (last, None));
+    same(&rt, text_of(&rt, &journal).as_slice(), JOURNAL.as_bytes());
 }
 
 // Faults in the order of their numbers.
@@ -228,5 +212,24 @@ fn an_audit_answers_the_first_fault(rt: HostRuntime) {
     for (text, wanted) in &AUDITED {
         let journal = audit(rt.alloc(), &mut Marked::new(text.as_bytes()));
         same_at(&rt, text, journal.map(|journal| journal.len()), *wanted);
+    }
+}
+
+// A text and the torn line at its end; the version, how many entries there are, and whether somebody is overtaken.
+const REPLAYED: [(&str, &str, JournalVersion, u64, bool); 3] = [
+    ("dine 1 64 256\n", "", One, 0, false),
+    ("dine 1 9 9\n0 join -> joined 0.0\n12", "12", One, 1, false),
+    (OVERTAKING, "", Two, 10, true),
+];
+
+#[test]
+fn a_replay_tells_what_a_journal_leaves(rt: HostRuntime) {
+    for (text, torn, version, entries, is_overtaken) in &REPLAYED {
+        let mut left = Vec::new(rt.alloc());
+        let found = replay(rt.alloc(), &mut Marked::new(text.as_bytes()), &mut left);
+        let found = found.map(|it| (it.version, it.entries, it.is_overtaken, it.is_torn));
+        let wanted = (*version, *entries, *is_overtaken, !torn.is_empty());
+        same_at(&rt, text, found, Ok(wanted));
+        same_at(&rt, text, left.as_slice(), torn.as_bytes());
     }
 }

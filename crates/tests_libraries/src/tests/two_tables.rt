@@ -8,7 +8,6 @@ use dine_journal::PlainTable;
 use dine_words::State::{Eating, Hungry, Thinking};
 use dine_words::{Call, Limits, Reply, Task};
 use std::alloc::Global;
-use std::process::Abort;
 use tests_kit::{Draw, Host, draw_call};
 
 const CALLS: u32 = 4000;
@@ -41,11 +40,6 @@ fn turn(table: &PlainTable, meals: &Meals, task: Task) -> (bool, Option<u64>) {
     (table.state(task) == Some(Eating), stamp)
 }
 
-// Whether the first comes before the second.
-fn is_sooner(table: &PlainTable, meals: &Meals, first: Task, second: Task) -> bool {
-    turn(table, meals, first) < turn(table, meals, second)
-}
-
 // The messages between the task of a call and one of its neighbours.
 fn messages_between(
     table: &PlainTable,
@@ -54,7 +48,7 @@ fn messages_between(
     task: Task,
     neighbour: Task,
 ) -> u32 {
-    let is_sooner = is_sooner(table, meals, task, neighbour);
+    let is_sooner = turn(table, meals, task) < turn(table, meals, neighbour);
     match (call, table.state(neighbour), is_sooner) {
         (Call::Finish(_), state, _) => u32::from(state == Some(Hungry)),
         (_, Some(Eating), _) => 1,
@@ -67,7 +61,7 @@ fn messages_between(
 
 // The messages over a conflict that is declared.
 fn messages_of_conflict(table: &PlainTable, meals: &Meals, first: Task, second: Task) -> u32 {
-    let (sooner, later) = if is_sooner(table, meals, first, second) {
+    let (sooner, later) = if turn(table, meals, first) < turn(table, meals, second) {
         (first, second)
     } else {
         (second, first)
@@ -139,13 +133,18 @@ fn make_call(rt: &impl Host, sides: &mut Sides, call: Call, turn: u32) -> Reply 
     wanted.0
 }
 
-// Both sides name the same task as the next one, and tell the same of the tasks that joined last.
-fn check_questions(rt: &impl Abort, sides: &Sides, turn: u32) {
-    let (arbiter, table) = (&sides.arbiter, &sides.table);
+// Both sides name the same tasks as the next ones, and tell the same of the tasks that joined last.
+fn check_questions(rt: &impl Host, sides: &Sides, turn: u32) {
+    let (arbiter, table, alloc) = (&sides.arbiter, &sides.table, rt.alloc());
     same_at(rt, turn, arbiter.next_ready(), table.next_ready());
+    let (found, wanted) = (arbiter.ready(alloc).ok(), table.ready(alloc).ok());
+    same_at(rt, turn, found.as_deref(), wanted.as_deref());
     for (task, _) in sides.meals.iter().rev().take(NAMED) {
         same_at(rt, turn, arbiter.state(*task), table.state(*task));
         same_at(rt, turn, arbiter.is_ready(*task), table.is_ready(*task));
+        let found = arbiter.blockers(alloc, *task).ok().flatten();
+        let wanted = table.blockers(alloc, *task).ok().flatten();
+        same_at(rt, turn, found.as_deref(), wanted.as_deref());
     }
 }
 

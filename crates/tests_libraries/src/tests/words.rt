@@ -3,9 +3,10 @@
 use crate::tests::same::{same, same_at};
 use dine_lines::{Name, Names};
 use dine_words::Call::{self, Begin, Join};
-use dine_words::Refusal::Full;
-use dine_words::Reply::{self, Done, Refused};
-use dine_words::{Entry, JournalVersion, Limits, MAX_ENTRY_LINE, NUMBER_LEN, Task, push_number};
+use dine_words::JournalVersion::{self, One, Two};
+use dine_words::Refusal::{Full, NotYet};
+use dine_words::Reply::{self, Done, Joined, Refused};
+use dine_words::{Entry, Header, Limits, MAX_ENTRY_LINE, NUMBER_LEN, Task, push_number};
 use std::alloc::AllocError;
 use std::test::Fail;
 use tests_kit::{A, LIMITS};
@@ -77,15 +78,39 @@ fn an_entry_is_read_from_its_text_alone(rt: HostRuntime) {
 }
 
 #[test]
+fn a_header_and_an_entry_are_read_from_the_front(rt: HostRuntime) {
+    let found = Header::read_front(b"dine 1 64 256\n0 join");
+    let found = found.map(|(header, rest)| (header.version, header.limits, rest));
+    same(&rt, found, Some((One, LIMITS, b"\n0 join".as_slice())));
+    let found = Entry::read_line::<0>(Two, b"7 begin 0.0 -> refused full\n0 join");
+    let found = found.map(|(entry, rest)| (entry.pass, entry.call, entry.reply, rest));
+    let wanted = (7, Begin(A), Refused(Full), b"0 join".as_slice());
+    same(&rt, found, Some(wanted));
+}
+
+// Replies, and texts behind the calls that got them, up to a next line.
+const ANSWERS: [(Reply, &str); 4] = [
+    (Done, " -> done\n0 join"),
+    (Joined(Task { slot: 1, born: 7 }), " -> joined 1.7\n0 join"),
+    (Refused(NotYet), " -> refused not-yet\n0 join"),
+    (Refused(Full), " -> refused full\n0 join"),
+];
+
+#[test]
+fn a_reply_is_found_behind_its_call(rt: HostRuntime) {
+    for (reply, text) in &ANSWERS {
+        let rest = reply.after_answer(text.as_bytes());
+        same_at(&rt, text, rest, Some(b"0 join".as_slice()));
+    }
+}
+
+#[test]
 fn a_task_and_a_header_are_appended(rt: HostRuntime) -> Result<(), AllocError> {
     let mut out = b"x".to_vec(rt.alloc())?;
     Task { slot: 1, born: 7 }.write_to(&mut out)?;
-    same(&rt, out.as_slice(), b"x1.7".as_slice());
-    out.clear();
-    A.write_to(&mut out)?;
     LIMITS.write_header_line_to(&mut out)?;
-    same(&rt, out.as_slice(), b"0.0dine 2 64 256\n".as_slice());
-    same(&rt, JournalVersion::written(), JournalVersion::Two);
+    same(&rt, out.as_slice(), b"x1.7dine 2 64 256\n".as_slice());
+    same(&rt, JournalVersion::written(), Two);
     Ok(())
 }
 

@@ -1,8 +1,4 @@
-use Rattle.std.proofs.Common.{not, sym, ap, ◌∙◌, arith}
-use Rattle.std.specs.List.{filter}
-use Rattle.dine_forks.specs.Book.{ForkBook, is_end}
-use Rattle.dine_arbiter.proofs.Walks.{first-listed, others-without, fewer-without, none-left}
-use Rattle.dine_forks.proofs.CallerLemmas.{book_is}
+use Rattle.dine_arbiter.proofs.Lemmas.{not, sym, ap, ◌∙◌, arith, filter, ForkBook, is_end, book_is, first-listed, others-without, fewer-without, none-left}
 use Rattle.dine_arbiter.proofs.walk.unlink_around.Goals as goal
 
 pub unlink-requires : goal.unlink-requires

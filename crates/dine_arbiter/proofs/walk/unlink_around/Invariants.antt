@@ -1,6 +1,4 @@
-use Rattle.std.proofs.Common.{◌≡◌, not, length}
-use Rattle.std.specs.List.{filter}
-use Rattle.dine_forks.specs.Book.{is_end, slot_list}
+use Rattle.dine_arbiter.proofs.Lemmas.{◌≡◌, not, length, filter, is_end, slot_list}
 use Rattle.dine_arbiter.proofs.walk.unlink_around.Given as goal
 
 -- the records of other slots are as they were

@@ -1,5 +1,4 @@
-use Rattle.std.proofs.Common.{◌≡◌, ℕ, ◌+◌, ◌-◌, ◌*◌, ◌<◌, ◌≤◌, length}
-use Rattle.dine_forks.specs.SlotSets.{bit_in}
+use Rattle.dine_forks.proofs.Lemmas.{◌-◌, ◌*◌, ◌≤◌, bit_in, ◌≡◌, ℕ, ◌+◌, ◌<◌, length}
 use Rattle.dine_forks.proofs.slot_set.first_set.Given as goal
 
 -- no bit that was passed over is set: those of the words before, and of this one those that are skipped

@@ -1,5 +1,4 @@
-use Rattle.std.proofs.Common.{[], ◌∷◌, ◌++◌, codes, sym, ap, ◌∙◌, append_assoc, append-nil}
-use Rattle.dine_serve.specs.Answers.{task_if}
+use Rattle.dine_serve.proofs.Words.{[], ◌∷◌, ◌++◌, codes, sym, ap, ◌∙◌, append_assoc, append-nil, task_if}
 use Rattle.dine_serve.proofs.Answering.{left_ok, on_ok}
 use Rattle.dine_serve.proofs.answer_texts.push_cancelled_line.Goals as goal
 

@@ -1,54 +1,78 @@
-use Rattle.std.proofs.Common.{rules, refl, ap, sym, ◌∙◌, arith}
-use Rattle.dine_serve.proofs.Rows.{one_fewer}
-use Rattle.dine_serve.proofs.Skipping.{waiting-removed}
-use Rattle.dine_serve.proofs.Trying.{ComesOfAll, comes_of_all, of_error, tried-all, tried-first, tried-partly, tried-taken, tried-waits}
+use Rattle.dine_serve.proofs.Words.{◌≡◌, ◌++◌, Some, refl, sym, ap, subst, ◌∙◌, append-nil, arith, map, entry_text, text_of_lines, Table, IsNext, IsRetried, first_due, in_order, AllWait}
+use Rattle.dine_serve.proofs.FirstDue.{Splits, none-due, splits}
+use Rattle.dine_serve.proofs.Retrying.{kept-all, left-order, next-there, one-more, retried-on, waits-front}
+use Rattle.dine_serve.proofs.Staying.{Rests, all-rest}
+use Rattle.dine_serve.proofs.Trying.{IsToCome, comes-on}
 use Rattle.dine_serve.proofs.awaits.begin_waiting.Goals as goal
-use Rattle.dine_serve.proofs.awaits.begin_waiting.Goals.{After-loop-place}
+use Rattle.dine_serve.proofs.awaits.begin_waiting.Goals.{In_default}
 
--- those before the stretch wait on
-pub loop-place-init : goal.loop-place-init
-loop-place-init c = record {
-  in_range = c.requires.beyond.within;
-  behind = c.requires.beyond.behind;
+pub loop-awaited-init : goal.loop-awaited-init
+loop-awaited-init c = record {
   clock = refl;
-  so_far = tried-first c.args.arbiter.now.table c.args.awaits.now c.args.receipts.now.items c.args.out.now.items c.args.stretch.first c.requires.beyond.before;
+  retried = c.requires.retried;
+  next = tt;
+  room = c.requires.room;
+  to_come = record { table = refl; left = refl; kept = refl; said = refl };
 }
 
--- one that has to wait is passed over
-pub loop-place-preserved-then-has_to_wait : goal.loop-place-preserved-then-has_to_wait
-loop-place-preserved-then-has_to_wait c = record {
-  in_range = c.loop-place.invariant.in_range;
-  behind = c.loop-place.invariant.behind;
-  clock = c.loop-place.invariant.clock;
-  so_far = tried-waits _ _ _ _ _ _ _ _ c.loop-place.place c.loop-place.invariant.so_far c.as_slice.result.now _ c.as_slice.ensures (omega (arith, c.loop-place-test.true, c.loop-place.invariant.in_range)) (sym c.has_to_wait.ensures ∙ c.if-has_to_wait.true);
-}
+-- one waits, so there is room for a line
+pub begin-requires-clause-room : goal.begin-requires-clause-room
+begin-requires-clause-room c =
+    let t = c.loop-awaited.arbiter.table in
+    let w = c.loop-awaited.waiters in
+    let first : first_due t (in_order t.order w.rows) ≡ Some c.in-Some.awaited = sym c.first_due.ensures ∙ c.in-Some.is in
+    let one = one-more t w c.args.call c.loop-awaited.invariant.retried c.in-Some.awaited (splits t (in_order t.order w.rows) c.in-Some.awaited first) in
+    let room = c.loop-awaited.invariant.room in
+    omega (arith, one, room)
 
--- one that begins ends no wait behind the stretch
-pub loop-place-preserved : goal.loop-place-preserved
-loop-place-preserved c = record {
-  in_range = one_fewer c.loop-place.awaits c.take_out.new.self c.loop-place.place c.loop-place.end c.take_out.ensures c.loop-place-test.true c.loop-place.invariant.in_range;
-  behind = waiting-removed c.loop-place.arbiter.table c.begin.new.arbiter.table _ c.loop-place.awaits c.take_out.new.self c.loop-place.place c.loop-place.end c.loop-place-test.true c.loop-place.invariant.in_range c.take_out.ensures c.in_ok-begin.ensures.table c.loop-place.invariant.behind;
-  clock = search rules;
-  so_far = tried-taken _ _ _ _ _ _ _ _ c.loop-place.place c.loop-place.invariant.so_far c.as_slice.result.now _ c.take_out.new.self _ _ _ c.as_slice.ensures (omega (arith, c.loop-place-test.true, c.loop-place.invariant.in_range)) c.take_out.ensures (sym c.has_to_wait.ensures ∙ c.if-has_to_wait.false) c.in_ok-begin.ensures.table c.in_ok-begin.ensures.receipts c.in_ok-begin.ensures.said;
-}
+-- the one that is due begins, and is taken out
+pub loop-awaited-preserved : goal.loop-awaited-preserved
+loop-awaited-preserved c =
+    let t = c.loop-awaited.arbiter.table in
+    let w = c.loop-awaited.waiters in
+    let w' = c.take_first.new.self in
+    let r = c.loop-awaited.invariant.retried in
+    let a = c.in-Some.awaited in
+    let first : first_due t (in_order t.order w.rows) ≡ Some a = sym c.first_due.ensures ∙ c.in-Some.is in
+    let s : Splits t (in_order t.order w.rows) a = splits t (in_order t.order w.rows) a first in
+    let taken = c.take_first.ensures.taken in
+    let fewer = c.take_first.ensures.len in
+    let made = c.begin.ensures.table in
+    let said = c.begin.ensures.said in
+    let left = ap (λ (x : Table). in_order x.order w'.rows) made ∙ left-order t w c.args.call r a first w' taken fewer in
+    record {
+      clock = c.begin.ensures.clock ∙ c.loop-awaited.invariant.clock;
+      retried = subst (λ x. IsRetried x c.args.call w') (sym made) (retried-on t w c.args.call r a first w' taken fewer);
+      next = subst (λ x. IsNext x w'.rows a.task.slot) (sym made) (next-there t w c.args.call r a first w' taken fewer);
+      room =
+          let one = one-more t w c.args.call r a s in
+          let room = c.loop-awaited.invariant.room in
+          let len = said.len in
+          let capacity = said.capacity in
+          omega (arith, one, room, fewer, len, capacity);
+      to_come = subst (λ l. IsToCome c.args.arbiter.now.table c.begin.new.arbiter.table (in_order c.args.arbiter.now.table.order c.args.waiters.now.rows) l c.args.receipts.now.items c.begin.new.receipts.items c.args.out.now.items c.begin.new.out.items) (sym left)
+          (comes-on _ t _ _ (in_order t.order w.rows) _ _ _ _ _ _ c.loop-awaited.invariant.to_come a s (subst (λ x. AllWait x s.front) (sym made) (waits-front t w c.args.call r a first w' taken fewer)) made c.begin.ensures.receipts said.is);
+    }
 
--- without memory for the line of one that begins, it and those behind it wait on
-pub returns-in_err-begin-clause-err : goal.returns-in_err-begin-clause-err
-returns-in_err-begin-clause-err c =
-    of_error _ c.from_residual.result (tried-partly _ _ _ _ _ _ _ _ c.loop-place.place c.loop-place.invariant.so_far _ _ _ (ap (λ arbiter. arbiter.table) c.in_err-begin.ensures.no_call) c.in_err-begin.ensures.no_receipt c.in_err-begin.ensures.no_line)
+-- where none is due, all have to wait
+wait : (c : In_default) → AllWait c.loop-awaited.arbiter.table (in_order c.loop-awaited.arbiter.table.order c.loop-awaited.waiters.rows)
+wait c = none-due c.loop-awaited.arbiter.table (in_order c.loop-awaited.arbiter.table.order c.loop-awaited.waiters.rows) (sym c.first_due.ensures ∙ c.in_default.is)
 
--- nobody behind the stretch begins
-all : (c : After-loop-place) → ComesOfAll c.args.arbiter.now.table c.loop-place.arbiter.table c.args.awaits.now c.loop-place.awaits c.args.receipts.now.items c.loop-place.receipts.items c.args.out.now.items c.loop-place.out.items
-all c = comes_of_all _ _ _ _ _ _ _ _ (tried-all _ _ _ _ _ _ _ _ c.loop-place.place c.loop-place.invariant.so_far c.loop-place.end (omega (arith, c.loop-place-test.false)) c.loop-place.invariant.behind)
+-- so nothing comes of them
+rest : (c : In_default) → Rests c.loop-awaited.arbiter.table (in_order c.loop-awaited.arbiter.table.order c.loop-awaited.waiters.rows) c.loop-awaited.receipts.items
+rest c = all-rest c.loop-awaited.arbiter.table (in_order c.loop-awaited.arbiter.table.order c.loop-awaited.waiters.rows) c.loop-awaited.receipts.items (wait c)
 
 pub returns-clause-table : goal.returns-clause-table
-returns-clause-table c = (all c).table
+returns-clause-table c = sym (rest c).table ∙ c.loop-awaited.invariant.to_come.table
 
 pub returns-clause-left : goal.returns-clause-left
-returns-clause-left c = (all c).left
+returns-clause-left c = sym (rest c).left ∙ c.loop-awaited.invariant.to_come.left
 
 pub returns-clause-receipts : goal.returns-clause-receipts
-returns-clause-receipts c = (all c).kept
+returns-clause-receipts c = sym (rest c).kept ∙ c.loop-awaited.invariant.to_come.kept
 
 pub returns-clause-said : goal.returns-clause-said
-returns-clause-said c = (all c).said
+returns-clause-said c = sym (append-nil c.loop-awaited.out.items) ∙ ap (λ es. c.loop-awaited.out.items ++ text_of_lines (map entry_text es)) (sym (rest c).none) ∙ c.loop-awaited.invariant.to_come.said
+
+pub returns-clause-kept : goal.returns-clause-kept
+returns-clause-kept c = kept-all c.loop-awaited.arbiter.table c.args.call c.loop-awaited.waiters c.loop-awaited.invariant.retried (wait c)

@@ -1,17 +1,18 @@
-use Rattle.std.proofs.Common.{◌≡◌, ◌-◌, ◌≤◌, length, take, drop}
-use Rattle.dine_serve.specs.Partly.{AreTried}
-use Rattle.dine_serve.specs.Waits.{AllWait}
+use Rattle.dine_serve.proofs.Words.{◌≡◌, ◌+◌, ◌*◌, ◌≤◌, IfSome, IsNext, IsRetried, in_order, vec_capacity, vec_len}
+use Rattle.dine_serve.proofs.Trying.{IsToCome}
 use Rattle.dine_serve.proofs.awaits.begin_waiting.Given as goal
 
--- those in front of the place were tried, those from there on are still to be, and behind the end each has to wait
-abbrev pub invariant-loop-place : goal.invariant-loop-place
-invariant-loop-place l = record {
-  in_range : l.end ≤ length l.awaits;
-  behind : AllWait l.arbiter.table (drop l.end l.awaits);
+-- those that are due were made up to the first that is due now, which is the next at the slot of the last if there is one.
+-- There is room for the lines of all that are left
+abbrev pub invariant-loop-awaited : goal.invariant-loop-awaited
+invariant-loop-awaited l = record {
   clock : l.arbiter.table.clock ≡ l.initial.arbiter.table.clock;
-  so_far : AreTried l.initial.arbiter.table l.arbiter.table l.initial.awaits (take l.place l.awaits) (drop l.place l.awaits) l.initial.receipts.items l.receipts.items l.initial.out.items l.out.items;
+  retried : IsRetried l.arbiter.table l.call l.waiters;
+  next : IfSome l.last (IsNext l.arbiter.table l.waiters.rows);
+  room : vec_len l.out + 166 * l.waiters.len ≤ vec_capacity l.out;
+  to_come : IsToCome l.initial.arbiter.table l.arbiter.table (in_order l.initial.arbiter.table.order l.initial.waiters.rows) (in_order l.arbiter.table.order l.waiters.rows) l.initial.receipts.items l.receipts.items l.initial.out.items l.out.items;
 }
 
--- each step leaves fewer to be tried
-abbrev pub decreases-loop-place : goal.decreases-loop-place
-decreases-loop-place l = l.end - l.place
+-- each step leaves one fewer who waits
+abbrev pub decreases-loop-awaited : goal.decreases-loop-awaited
+decreases-loop-awaited l = l.waiters.len

@@ -1,4 +1,4 @@
-use Rattle.dine_serve.specs.Serving.{standing_at}
+use Rattle.dine_serve.proofs.Words.{standing_at}
 use Rattle.dine_serve.proofs.Once.{carried_out-once}
 use Rattle.dine_serve.proofs.law.each_number_is_carried_out_once.Goals as goal
 

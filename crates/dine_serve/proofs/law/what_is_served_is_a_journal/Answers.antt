@@ -1,6 +1,4 @@
-use Rattle.std.proofs.Common.{[]}
-use Rattle.dine_streams.specs.Lines.{seen_lines}
-use Rattle.dine_serve.specs.Serving.{opening}
+use Rattle.dine_serve.proofs.Words.{[], seen_lines, opening}
 use Rattle.dine_serve.proofs.Legal.{legal-lines, served-journal}
 use Rattle.dine_serve.proofs.law.what_is_served_is_a_journal.Goals as goal
 

@@ -1,6 +1,4 @@
-use Rattle.std.proofs.lemmas.Bool.Decides.{Decides-eqb}
-use Rattle.std.proofs.lemmas.Slice.Eq.{strip_prefix_is}
-use Rattle.dine_words.proofs.CallerLemmas.{word_at-test}
+use Rattle.dine_serve.proofs.Words.{Decides-eqb, strip_prefix_is, word_at-test}
 use Rattle.dine_serve.proofs.request.after_word.Goals as goal
 
 pub returns : goal.returns

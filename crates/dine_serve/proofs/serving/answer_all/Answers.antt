@@ -1,6 +1,5 @@
-use Rattle.std.proofs.Common.{◌≡◌, ◌∙◌, refl, rules, Err}
+use Rattle.dine_serve.proofs.Words.{◌≡◌, ◌∙◌, refl, rules, Err, Memory, Read, Write}
 use Rattle.dine_serve.proofs.Hearing.{answered-end, answered-opening, answered-so_far, block-in_lines, block-in_part, block-next, end-in_lines, end-in_part, fault-end}
-use Rattle.dine_streams.specs.declared.ended.CliFault.TheVariants.{Memory, Read, Write}
 use Rattle.dine_serve.proofs.Answering.{on_ok}
 use Rattle.dine_serve.proofs.Served.{in_any_case, of_value, serves-in_part, two_faults}
 use Rattle.dine_serve.proofs.serving.answer_all.Goals as goal

@@ -1,4 +1,4 @@
-use Rattle.std.proofs.Common.{◌≡◌, []}
+use Rattle.dine_serve.proofs.Words.{◌≡◌, []}
 use Rattle.dine_serve.proofs.Hearing.{IsAnswered}
 use Rattle.dine_serve.proofs.serving.answer_all.Given as goal
 

@@ -1,10 +1,5 @@
-use Rattle.std.proofs.Common.{◌≡◌, Err, [], ◌∙◌, refl, rules, sym}
-use Rattle.dine_streams.specs.Lines.{seen_lines}
-use Rattle.dine_streams.specs.declared.ended.CliFault.TheVariants.{Memory, Write}
-use Rattle.dine_serve.specs.Requests.{reading_of}
-use Rattle.dine_serve.specs.Serving.{counted, said_from, said_to}
+use Rattle.dine_serve.proofs.Words.{◌≡◌, Err, [], ◌∙◌, refl, rules, sym, seen_lines, Memory, Write, reading_of, counted, said_from, said_to, begun, gathered, moved, partly, whole}
 use Rattle.dine_serve.proofs.Answering.{has_room, said_from-first, standing_from-first}
-use Rattle.dine_streams.proofs.CallerLemmas.{begun, gathered, moved, partly, whole}
 use Rattle.dine_serve.proofs.Served.{says-in_lines, says-in_part}
 use Rattle.dine_serve.proofs.serving.answer_lines.Goals as goal
 

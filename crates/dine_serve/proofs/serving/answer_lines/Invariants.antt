@@ -1,7 +1,4 @@
-use Rattle.std.proofs.Common.{◌≡◌, [], length}
-use Rattle.dine_streams.specs.Lines.{begun_line, seen_lines}
-use Rattle.dine_serve.specs.Serving.{said_from, standing_from}
-use Rattle.dine_streams.proofs.CallerLemmas.{Progress}
+use Rattle.dine_serve.proofs.Words.{◌≡◌, [], length, begun_line, seen_lines, said_from, standing_from, Progress}
 use Rattle.dine_serve.proofs.serving.answer_lines.Given as goal
 
 -- what is said to the lines so far is written or pending

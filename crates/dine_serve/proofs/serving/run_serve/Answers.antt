@@ -1,5 +1,4 @@
-use Rattle.std.proofs.Common.{ap, ◌∙◌}
-use Rattle.dine_streams.specs.Ending.{end_of}
+use Rattle.dine_serve.proofs.Words.{ap, ◌∙◌, end_of}
 use Rattle.dine_serve.proofs.Served.{served-end}
 use Rattle.dine_serve.proofs.serving.run_serve.Goals as goal
 

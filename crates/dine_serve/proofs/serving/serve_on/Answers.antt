@@ -1,8 +1,4 @@
-use Rattle.std.proofs.Common.{◌≡◌, Err, rules}
-use Rattle.dine_words.specs.Texts.{header_text}
-use Rattle.dine_words.specs.Versions.{written_version}
-use Rattle.dine_streams.specs.declared.ended.CliFault.TheVariants.{Memory, Read, Write}
-use Rattle.dine_serve.specs.Serving.{said_to_input}
+use Rattle.dine_serve.proofs.Words.{◌≡◌, Err, rules, header_text, written_version, Memory, Read, Write, said_to_input}
 use Rattle.dine_serve.proofs.Opening.{first-in_part, nothing-written}
 use Rattle.dine_serve.proofs.Served.{headed-serves, serves-in_part}
 use Rattle.dine_serve.proofs.serving.serve_on.Goals as goal

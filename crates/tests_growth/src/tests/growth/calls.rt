@@ -7,7 +7,7 @@ use crate::tests::same::same;
 use dine_arbiter::Arbiter;
 use dine_forks::{Fork, ForkBook};
 use dine_journal::PlainTable;
-use dine_words::{Entry, State, Task};
+use dine_words::{Call, Entry, Reply, State, Task};
 use std::alloc::{AllocError, Global};
 use std::process::Abort;
 use tests_kit::{A, D, E, Host, LIMITS, RING, TURNS};
@@ -79,10 +79,12 @@ fn new_arbiter(rt: &impl Host) -> Arbiter {
 }
 
 fn beside(alloc: Global, arbiter: &Arbiter, task: Task) -> Result<Option<Vec<Task>>, AllocError> {
-    arbiter.neighbours(alloc, task)
+    let blockers = arbiter.blockers(alloc, task)?;
+    let neighbours = arbiter.neighbours(alloc, task)?;
+    Ok(neighbours.filter(|_| blockers.is_some()))
 }
 
-// The neighbours of a task. Where there is no memory for them, they are asked for again.
+// The neighbours of a task, each of which it waits for. Where there is no memory for them, they are asked for again.
 fn is_beside(rt: &impl Host, arbiter: &Arbiter, task: Task, wanted: Option<&[Task]>) {
     let found = beside(rt.alloc(), arbiter, task).or_else(|_| beside(rt.alloc(), arbiter, task));
     let found = found.ok().expect(rt, "one growth is refused at most");
@@ -100,6 +102,12 @@ fn an_arbiter_is_made_and_tells_the_neighbours_again(rt: HostRuntime) {
     same(&rt, (arbiter.clock(), arbiter.book().len()), (5, 5));
     is_beside(&rt, &arbiter, E, Some(&[D, A]));
     is_beside(&rt, &arbiter, Task { slot: 9, born: 9 }, None);
+    assert!(&rt; arbiter.clock() < 100);
+    same(&rt, arbiter.apply(Call::Finish(A)), Reply::Done);
+    let found = arbiter
+        .ready(rt.alloc())
+        .or_else(|_| arbiter.ready(rt.alloc()));
+    same(&rt, found.map(|tasks| tasks.len()), Ok(1));
 }
 
 // How far a plain table is: its clock, the states of two tasks, and the next task that may begin.

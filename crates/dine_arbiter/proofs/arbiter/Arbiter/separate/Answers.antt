@@ -1,12 +1,6 @@
-use Rattle.std.proofs.Common.{◌≡◌, None, Some, inl, inr, sym, ap, ◌∙◌, if◌then◌else◌}
-use Rattle.std.proofs.lemmas.Bool.{cases_Bool}
+use Rattle.dine_arbiter.proofs.Lemmas.{◌≡◌, None, Some, inl, inr, sym, ap, ◌∙◌, if◌then◌else◌, cases_Bool, Apart, refusal_of, after_separate, refused, seen_joined, two_passed, filter-none}
 use Rattle.dine_words.specs.declared.call.Call.TheVariants as call
-use Rattle.dine_words.specs.declared.call.Refusal.TheVariants.{Apart}
-use Rattle.dine_table.specs.Calls.{refusal_of}
 use Rattle.dine_forks.specs.Book.{is_between}
-use Rattle.dine_arbiter.proofs.After.{after_separate, reach, refused, seen_joined}
-use Rattle.dine_arbiter.proofs.Following.{two_passed}
-use Rattle.dine_arbiter.proofs.Walks.{filter-none}
 use Rattle.dine_arbiter.proofs.arbiter.Arbiter.separate.Goals.{After-unlink_between-was_there}
 use Rattle.dine_arbiter.proofs.arbiter.Arbiter.separate.Goals as goal
 
@@ -15,11 +9,6 @@ decided : (c : After-unlink_between-was_there) → refusal_of c.args.self.now.ta
 decided c =
     let (x, y, hu, hv, is) = two_passed c.args.self.now.table c.args.first c.args.second c.requires.able in
     is ∙ ap (λ b. if b then None else Some Apart) (sym (c.unlink_between-was_there.ensures.found ∙ seen_joined c.self.inside c.self.view_is c.self.invariant c.args.first c.args.second x y hu hv))
-
-pub unlink_between-was_there-requires : goal.unlink_between-was_there-requires
-unlink_between-was_there-requires c =
-    let (x, y, hu, hv, _) = two_passed c.args.self.now.table c.args.first c.args.second c.requires.able in
-    record { first = (reach c.self.inside c.self.view_is c.self.invariant c.args.first x hu).1; second = (reach c.self.inside c.self.view_is c.self.invariant c.args.second y hv).1 }
 
 pub invariant_of-self : goal.invariant_of-self
 invariant_of-self c =

@@ -1,12 +1,9 @@
-use Rattle.std.proofs.Common.{None, ap, ◌∙◌}
-use Rattle.std.proofs.Math.ListN.{get_or-map}
-use Rattle.dine_arbiter.specs.Records.{answer_in, answers_in, answers_of}
-use Rattle.dine_arbiter.specs.Seats.{state_of_seat}
+use Rattle.dine_arbiter.proofs.Lemmas.{None, ap, ◌∙◌, get_or-map, states_by, seat_state, state_of_seat}
 use Rattle.dine_arbiter.proofs.seats.Seats.states.Goals as goal
 
-pub returns-clause-answers : goal.returns-clause-answers
-returns-clause-answers c =
+pub returns-clause-states : goal.returns-clause-states
+returns-clause-states c =
     let seats = c.self.inside.places.items in
-    ap answers_in (c.as_slice.ensures ∙ c.self.invariant.states_told)
-    ∙ (λ i slot. ap answer_in (get_or-map state_of_seat seats slot None) i)
-    ∙ ap answers_of c.self.view_is
+    ap states_by (c.as_slice.ensures.value ∙ c.self.invariant.states_told)
+    ∙ (λ i slot. get_or-map state_of_seat seats slot None i)
+    ∙ ap seat_state c.self.view_is

@@ -1,11 +1,11 @@
-use Rattle.dine_forks.proofs.Words.{◌∙◌, ◌+◌, ◌*◌, eq-eqb, sym}
-use Rattle.dine_forks.proofs.Seen.{holds_all-seen}
+use Rattle.dine_forks.proofs.Lemmas.{◌∙◌, ◌+◌, eq-eqb, sym, lacks-some, holds_all-seen, ◌*◌}
 use Rattle.dine_forks.proofs.book.ForkBook.lacking_word.Goals as goal
 
-pub lacking_word-requires : goal.lacking_word-requires
-lacking_word-requires c = rw c.self.invariant.1.places (rw (← c.self.view_is) at c.requires)
+pub word-requires : goal.word-requires
+word-requires c = rw c.self.invariant.listed (rw (← c.self.view_is) at c.requires)
 
 pub returns : goal.returns
 returns c = λ k below is.
-    let in_it = sym (c.lacking_word.ensures.told k below) ∙ eq-eqb _ 1 is in
-    rw (← c.self.view_is) (holds_all-seen c.self.inside.hands.marks (64 * c.args.word + k) c.self.inside.lists.records ∙ c.self.invariant.1.lack (64 * c.args.word + k) in_it)
+    let in_it = sym (c.word.ensures.told k below) ∙ eq-eqb _ 1 is in
+    let slot = 64 * c.args.word + k in let lists = c.self.inside.lists in
+    rw (← c.self.view_is) (holds_all-seen c.self.inside.marks.items slot lists.records ∙ lacks-some lists c.self.inside.counts.items c.self.inside.marks.items c.self.inside.lacking slot c.are_sound.ensures c.self.invariant in_it)

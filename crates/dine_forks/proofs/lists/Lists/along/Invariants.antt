@@ -1,6 +1,4 @@
-use Rattle.dine_forks.proofs.Words.{length, slot_list}
-use Rattle.dine_forks.proofs.Walks.{rest_of}
-use Rattle.dine_forks.proofs.Searching.{IsSearching}
+use Rattle.dine_forks.proofs.Lemmas.{length, slot_list, rest_of, IsSearching}
 use Rattle.dine_forks.proofs.lists.Lists.along.Given as goal
 
 -- the record that is looked for is the first between the slots in what is left of the walk, and as many were read as are

@@ -1,7 +1,4 @@
-use Rattle.dine_forks.proofs.Words.{◌≡◌, ℕ, false, None, sym, ap, ◌∙◌, arith, ForkBook, id_between}
-use Rattle.dine_forks.proofs.Searching.{id_between-turned}
-use Rattle.dine_forks.proofs.Signing.{none-between}
-use Rattle.dine_forks.specs.Signatures.{has_bit_of}
+use Rattle.dine_forks.proofs.Lemmas.{◌≡◌, ℕ, false, None, sym, ap, ◌∙◌, arith, ForkBook, id_between, id_between-turned, none-between, has_bit_of}
 use Rattle.dine_forks.specs.declared.lists.Lists.TheInside.{Inside}
 use Rattle.dine_forks.specs.contracts.lists.Lists.{the_invariant, the_view}
 use Rattle.dine_forks.proofs.lists.Lists.may_be_joined.Goals as goal

@@ -1,6 +1,4 @@
-use Rattle.dine_forks.proofs.Words.{length, ◌∙◌, slot_list, list_at, records_of, ids_of}
-use Rattle.dine_forks.proofs.Listing.{next_listed}
-use Rattle.dine_forks.proofs.CallerLemmas.{slot_of_used}
+use Rattle.dine_forks.proofs.Lemmas.{length, None, ◌∙◌, slot_list, records_of, ids_of, next_in, slot_of_used}
 use Rattle.dine_forks.proofs.lists.Lists.onward.Goals as goal
 
 pub returns : goal.returns
@@ -9,4 +7,4 @@ returns c =
     let nodes = c.self.inside.records.nodes in let lists = c.self.inside.by_slot.items in
     let records = records_of nodes (ids_of nodes c.self.inside.all) in
     let below = slot_of_used (length lists) c.args.slot c.args.id records c.self.invariant.0.kept.sound.ends_are_slots used in
-    rw (← c.self.view_is) (c.onward.ensures ∙ next_listed c.args.slot (list_at lists c.args.slot) nodes (slot_list c.args.slot records) c.args.id (c.self.invariant.0.indexed.listed c.args.slot below) used)
+    rw (← c.self.view_is) (c.read.ensures.next ∙ next_in c.args.slot nodes None (slot_list c.args.slot records) c.args.id (c.self.invariant.0.listed c.args.slot below).row used)

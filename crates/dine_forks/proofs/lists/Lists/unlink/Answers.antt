@@ -1,16 +1,6 @@
-use Rattle.dine_forks.proofs.Nodes.{length-cut}
-use Rattle.dine_forks.proofs.Words.{◌≡◌, ◌<◌, ◌++◌, ◌∷◌, [], List, Some, None, true, length, ap, sym, ◌∙◌, subst, ForkBook, ForkId, ForkRecord, is_in_use, record_of, without, HasPlace}
-use Rattle.dine_forks.proofs.Words.{ListEnds, Node, node_at, links_at, cut_nodes_in, cut_list, hung_list, IsStored, book_of, is_listed, without_id, IsOrdered, ids_of}
+use Rattle.dine_forks.proofs.Lemmas.{length-cut, ◌≡◌, ◌<◌, ◌++◌, ◌∷◌, [], List, Some, None, true, length, ap, sym, ◌∙◌, subst, ForkBook, ForkId, ForkRecord, is_in_use, record_of, without, HasPlace, ListEnds, Node, node_at, links_at, cut_nodes_in, cut_list, hung_list, IsStored, book_of, is_listed, without_id, IsOrdered, ids_of, is_in_use-named, CanCut, CanUnlink, book-unlinked, can_cut_first, can_cut_second, cut_both_lists, cut_both_nodes, cut_first_nodes, cut_first_lists, stored-unlinked, CanMove, can_move, has_place-same, last_has_place, moved, moved_left, moved_ordered, moved_to, near, split_listed, Keeps, book_moved, free_same, ids_same, keeps-cut, ordered_same, stored_moved, nodes_of, room_of, used_of, free_of, few-stored, signed-unlinked, AreSignatures}
 use Rattle.dine_forks.specs.contracts.lists.Lists.{the_invariant, the_view}
 use Rattle.dine_forks.specs.declared.lists.Lists.TheInside.{Inside}
-use Rattle.dine_forks.proofs.Named.{is_in_use-named}
-use Rattle.dine_forks.proofs.Linking.{CanCut, CanUnlink, book-unlinked, can_cut_first, can_cut_second, cut_both_lists, cut_both_nodes, cut_first_nodes, cut_first_lists, stored-unlinked}
-use Rattle.dine_forks.proofs.Rows.{has_place-same, last_has_place, place_of}
-use Rattle.dine_forks.proofs.Same.{IsSameAll, all-cut, all-trans, book_same, but_all-moved, free_same, ids_same, ordered_same, stored_same}
-use Rattle.dine_forks.proofs.Joining.{nodes_of, room_of, used_of, free_of, CanGive, can_give, given_free, given_ordered, given_used, moved}
-use Rattle.dine_forks.proofs.Providing.{few-stored}
-use Rattle.dine_forks.proofs.Signing.{signed-unlinked}
-use Rattle.dine_forks.specs.Signatures.{AreSignatures}
 use Rattle.dine_forks.proofs.lists.Lists.unlink.Goals.{After-record-record}
 use Rattle.dine_forks.proofs.lists.Lists.unlink.Goals as goal
 
@@ -19,13 +9,15 @@ abbrev out : Inside → ForkId → ForkRecord → List Node
 out b id r = cut_both_nodes (nodes_of b) id r
 
 -- which leaves the list of all
-same_out : (b : Inside) (id : ForkId) (r : ForkRecord) → IsSameAll (nodes_of b) (out b id r)
-same_out b id r = all-trans (nodes_of b) (cut_first_nodes (nodes_of b) id r) (out b id r) (all-cut r.first (nodes_of b) (links_at r.first (node_at (nodes_of b) id))) (all-cut r.second (cut_first_nodes (nodes_of b) id r) (links_at r.second (node_at (cut_first_nodes (nodes_of b) id r) id)))
+same_out : (b : Inside) (id : ForkId) (r : ForkRecord) → Keeps (nodes_of b) (out b id r)
+same_out b id r ends ids h =
+    let one = keeps-cut r.first (nodes_of b) (links_at r.first (node_at (nodes_of b) id)) ends ids h in
+    keeps-cut r.second (cut_first_nodes (nodes_of b) id r) (links_at r.second (node_at (cut_first_nodes (nodes_of b) id r) id)) ends ids one
 
 -- the record is in the book, so it can be cut out of its lists, and go to the vacant ones
 record Start (b : Inside) (id : ForkId) (r : ForkRecord) : Type 0 where
   can : CanUnlink (nodes_of b) b.by_slot.items (used_of b) (free_of b) (room_of b) id r
-  give : CanGive (out b id r) b.all b.vacant id
+  give : CanMove (out b id r) b.all b.vacant id
   ordered : IsOrdered (nodes_of b) b.all b.vacant
   signed : AreSignatures b.signatures.items (the_view b)
 
@@ -33,10 +25,11 @@ record Start (b : Inside) (id : ForkId) (r : ForkRecord) : Type 0 where
 start : (b : Inside) (book : ForkBook) (id : ForkId) (r : ForkRecord) → the_view b ≡ book → the_invariant b → is_in_use id book.records ≡ true → record_of id book.records ≡ Some r → Start b id r
 start b book id r view holds used found =
     let n0 = nodes_of b in let order = used_of b in let same = same_out b id r in
-    let listed : is_listed id order ≡ true = sym (is_in_use-named n0 order id holds.0.indexed.named) ∙ (rw (← view) at used) in
+    let listed : is_listed id order ≡ true = sym (is_in_use-named n0 order id holds.0.named) ∙ (rw (← view) at used) in
+    let split = split_listed (ids_of (out b id r) b.all) id (rw (ids_same n0 (out b id r) same b.all b.vacant holds.1) listed) in
     record {
       can = record { stored = holds.0; found = rw (← view) at found };
-      give = can_give (out b id r) b.all b.vacant id (ordered_same n0 (out b id r) same b.all b.vacant holds.1) (rw (ids_same n0 (out b id r) same b.all b.vacant holds.1) listed);
+      give = can_move (out b id r) b.all b.vacant id split.0 split.1 (ordered_same n0 (out b id r) same b.all b.vacant holds.1) split.2;
       ordered = holds.1;
       signed = holds.2;
     }
@@ -72,33 +65,33 @@ module _ (b : Inside) (id : ForkId) (r : ForkRecord) (s : Start b id r) where
 
   -- the record has a place before it is cut out of the list of all and after it, and so has the last of the vacant ones
   placed : id.number < length n2
-  placed = place_of n2 b.all b.vacant s.give.before s.give.after (ids_of n2 b.vacant) id s.give.move
+  placed = (near n2 b.all b.vacant id s.give).within
 
   -- so has the last vacant one
   last-placed : HasPlace (cut_nodes_in None (node_at n2 id).all n2) b.vacant.last
-  last-placed = has_place-same n2 _ b.vacant.last (length-cut None (node_at n2 id).all n2) (last_has_place n2 b.vacant (ids_of n2 b.vacant) s.give.move.to_row)
+  last-placed = has_place-same n2 _ b.vacant.last (length-cut None (node_at n2 id).all n2) (last_has_place None n2 b.vacant (ids_of n2 b.vacant) s.give.to_row)
 
   -- the ids in use are the others
   ids-left : ids_of n4 all ≡ without_id id (used_of b)
-  ids-left = given_used n2 b.all b.vacant id s.give ∙ ap (without_id id) (ids_same (nodes_of b) n2 (same_out b id r) b.all b.vacant s.ordered)
+  ids-left = moved_left n2 b.all b.vacant id s.give ∙ ap (without_id id) (ids_same (nodes_of b) n2 (same_out b id r) b.all b.vacant s.ordered)
 
   -- the ids of the vacant ones are those before it, and its own
   free-left : ids_of n4 vacant ≡ free_of b ++ id ∷ []
-  free-left = given_free n2 b.all b.vacant id s.give ∙ ap (λ (l : List ForkId). l ++ id ∷ []) (free_same (nodes_of b) n2 (same_out b id r) b.all b.vacant s.ordered)
+  free-left = moved_to n2 b.all b.vacant id s.give ∙ ap (λ (l : List ForkId). l ++ id ∷ []) (free_same (nodes_of b) n2 (same_out b id r) b.all b.vacant s.ordered)
 
   -- all that is kept holds of the new state, and the book lacks the record
   holds-unlinked : IsStored (room_of b) n4 L2 (ids_of n4 all) (ids_of n4 vacant)
   holds-unlinked =
-      rw (ids-left, free-left) (stored_same n2 n4 (but_all-moved n2 (node_at n2 id).all id b.vacant.last) L2 (without_id id (used_of b)) (free_of b ++ id ∷ []) (room_of b) (stored-unlinked (nodes_of b) b.by_slot.items (used_of b) (free_of b) (room_of b) id r s.can))
+      rw (ids-left, free-left) (stored_moved n2 id b.vacant.last (node_at n2 id).all L2 (without_id id (used_of b)) (free_of b ++ id ∷ []) (room_of b) (stored-unlinked (nodes_of b) b.by_slot.items (used_of b) (free_of b) (room_of b) id r s.can))
 
-  -- the two lists are in (used_of b) at the end
+  -- the two lists are in order at the end
   ordered-unlinked : IsOrdered n4 all vacant
-  ordered-unlinked = given_ordered n2 b.all b.vacant id s.give
+  ordered-unlinked = moved_ordered n2 b.all b.vacant id s.give
 
   -- the book lacks the record
   book-is : book_of (room_of b) n4 L2 (ids_of n4 all) ≡ record (the_view b) { records = without id (the_view b).records }
   book-is =
-      ap (book_of (room_of b) n4 L2) ids-left ∙ book_same n2 n4 (but_all-moved n2 (node_at n2 id).all id b.vacant.last) (room_of b) L2 (without_id id (used_of b)) ∙ book-unlinked (nodes_of b) b.by_slot.items (used_of b) (free_of b) (room_of b) id r s.can
+      ap (book_of (room_of b) n4 L2) ids-left ∙ book_moved n2 id b.vacant.last (node_at n2 id).all (room_of b) L2 (without_id id (used_of b)) ∙ book-unlinked (nodes_of b) b.by_slot.items (used_of b) (free_of b) (room_of b) id r s.can
 
   -- and the others are noted as they were
   signed : AreSignatures b.signatures.items (book_of (room_of b) n4 L2 (ids_of n4 all))

@@ -1,5 +1,4 @@
-use Rattle.dine_forks.proofs.Words.{forked_nodes}
-use Rattle.dine_forks.proofs.Forking.{AreForked, lists-forked}
+use Rattle.dine_forks.proofs.Lemmas.{forked_nodes, AreForked, lists-forked}
 use Rattle.dine_forks.specs.contracts.lists.Lists.{the_view}
 use Rattle.dine_forks.proofs.lists.Lists.write.Goals.{After-write_fork}
 use Rattle.dine_forks.proofs.lists.Lists.write.Goals as goal

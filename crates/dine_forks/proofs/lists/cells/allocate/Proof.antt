@@ -1,16 +1,8 @@
 -- `allocate` cuts the new block into empty places, and keeps the right to free it. Assumes `Logic`.
-use Rattle.dine_forks.proofs.Raw.{◌≡◌, refl, sym, ap, subst, true, false, ℕ, ◌*◌, ◌<◌, ◌^◌, arith, List, [], ◌∷◌, ◌++◌, lit<, Ura, Body, named, w64, ty_array, Val, vptr, vint, vstruct}
-use Rattle.dine_forks.proofs.Raw.{vcons, vnil, SProp, ent, Lft, Share, flft, Incl-trans, Env, Calls, Loops, WpFn, Tables, Wp, after_seq, at_return, Logic, fact, Fun, tables_of}
-use Rattle.dine_forks.proofs.Raw.{WpFn-mono, FmC, fm_of, Item, ⋆, ‵, raw, ◌⊛◌, later, await, at_ret, ◌$◌, ◌∵◌, !, qed, by, move, keep, use0, use1, use2, use3, split, join, fsplit, fsplit3, fjoin}
-use Rattle.dine_forks.proofs.Raw.{feq_l, suffices, frame, done, flt_l, flt_i, any_q, whole, agg, stop, fld, lit, of_opd, and_then, no_more, first, exec, returns, enter, bin, size_word, align_word}
-use Rattle.dine_forks.proofs.Raw.{switches_on, alloc_all, pass_all, free_all, look_at, get, get_in, sets, sets_last, is, env, get_tag, lands_as, yes, RattleType, owns, hidden_shr, layout, Ptr}
-use Rattle.dine_forks.proofs.Raw.{block_ptr, InBlock, ShrRef, RefOf, usize, plain, nothing, owned, Tuple, Clauses, Ended, closing, on_entry, Meets, triple_of, entered, says, needs, Stays}
-use Rattle.dine_forks.proofs.Raw.{stay_dropped, walk_of, ends_at, Goes-dropped, walk_Meets, after, head, arm_body, Good, word, word-Good, first_Good, length, replicate, length-replicate, None, IfOk}
-use Rattle.dine_forks.proofs.Raw.{Ok, Err, El, R, elτ, as_written, Memory, align, capped, capped_fits, Routine, ◌⊑◌, live, vrt, in_variant, Is, Struct, Struct-Makes, Triple, calls_at, FitsInBlock, Al}
-use Rattle.dine_forks.proofs.Raw.{second, Answer-typed, takes_key, Takes, at_takes, Answered, Takes-goes, Takes-gives, answers, ok_of, err_of}
+use Rattle.dine_forks.proofs.Raw.{◌≡◌, refl, sym, ap, subst, true, false, ℕ, ◌*◌, ◌<◌, ◌^◌, arith, List, [], ◌∷◌, ◌++◌, lit<, Ura, Body, named, w64, ty_array, Val, vptr, vint, vstruct, vcons, vnil, SProp, ent, Lft, Share, flft, Incl-trans, Env, Calls, Loops, WpFn, Wp, after_seq, at_return, Logic, fact, Fun, tables_of, WpFn-mono, FmC, fm_of, Item, ⋆, ‵, raw, ◌⊛◌, later, await, at_ret, ◌$◌, ◌∵◌, !, qed, by, move, keep, use0, use1, use2, use3, split, join, fsplit, fsplit3, fjoin, feq_l, suffices, frame, done, flt_l, flt_i, any_q, whole, agg, stop, fld, lit, of_opd, and_then, no_more, first, exec, returns, enter, bin, size_word, align_word, switches_on, alloc_all, pass_all, free_all, look_at, get, get_in, sets, sets_last, is, env, get_tag, lands_as, yes, RattleType, owns, hidden_shr, layout, Ptr, block_ptr, InBlock, ShrRef, RefOf, usize, plain, nothing, owned, Tuple, Clauses, Ended, on_entry, triple_of, entered, says, needs, Stays, stay_dropped, walk_of, ends_at, Goes-dropped, walk_Meets, after, head, arm_body, Good, word, word-Good, first_Good, length, replicate, length-replicate, None, IfOk, Ok, Err, El, R, elτ, as_written, Memory, align, capped, capped_fits, Routine, ◌⊑◌, live, vrt, in_variant, Is, Struct, Struct-Makes, Triple, calls_at, FitsInBlock, Al, second, Answer-typed, takes_key, Takes, at_takes, Answered, Takes-goes, Takes-gives, answers, ok_of, err_of}
 use types.Kit.{Post as After}
 use Rattle.dine_forks.specs.Ownership.{slots}
-use Rattle.dine_forks.proofs.Memory.{machine, idle, ref_at, Cr, Bs, Mark, sz, mark, mark_made, word_made, three_val, three_of, of_room}
+use Rattle.dine_forks.proofs.Memory.{machine, idle, ref_at, Cr, Pl, Mark, sz, mark, mark_made, word_made, three_val, three_of, of_room}
 use Rattle.dine_forks.proofs.Crosses.{built_by, Dd, uncapped, block_ty, block_size, block_align, args, P}
 use Rattle.dine_forks.specs.contracts.lists.cells.allocate.Key.{name as #self}
 use denote.Struct.Declared as Declared
@@ -23,7 +15,7 @@ use Rattle.dine_forks.proofs.lists.cells.allocate.Code as code
 module _ (E : El) (Z : Al) where
   -- the type of all three
   abbrev Three : RattleType
-  Three = Tuple (Bs E ∷ Cr E ∷ Dd E Z ∷ [])
+  Three = Tuple (Pl ∷ Cr E ∷ Dd E Z ∷ [])
 
   -- what it returns: all three, or a refusal
   abbrev Out : RattleType
@@ -82,14 +74,14 @@ module _ (E : El) (Z : Al) {M : Type 1} {𝓤 : Ura M} (𝓛 : Logic 𝓤) (at_m
       answers Z ! at_mem run a (block_ty E len) v
       (λ b o e.
       let p : Ptr = block_ptr b o in
-      let base : (Bs E).Denot = record { ptr = p } in
+      let base : Pl.Denot = record { ptr = p } in
       let cells : (Cr E).Denot = record { mark = record {}; at = p; slots = replicate len None } in
       let lease : (Dd E Z).Denot = record { mark = record {}; at = p; len = len; alloc = a } in
       let made : Val = three_val (word p) mark mark in
       let typed : Good (layout (Three E Z)) made = (tt, ((tt, tt), ((tt, tt), ((tt, tt), tt)))) in
       let ok = first_Good (layout (Three E Z)) made typed in
       lands_as ! e refl (Answer-typed true b o) $ first ! $ switches_on ! (get_tag ! (vrt ! refl (fld ! refl (stop !))) (whole !)) $ exec ! C Λ En (arm_body 0 both) Then $
-      sets ! (of_opd ! (get_in ! (vrt ! refl (fld ! refl (stop !))) (in_variant ! 0 0 refl refl (whole !)))) refl (tt, tt) $ sets ! (of_opd ! (get ! refl)) refl (tt, tt) $
+      sets ! (of_opd ! (get_in ! (vrt ! refl (fld ! refl (stop !))) (in_variant ! 0 0 refl refl (whole !)))) refl (tt, tt) $
       sets ! (agg ! (and_then ! (get ! refl) (no_more !))) refl (word-Good [] p) $
       sets ! (agg ! (no_more !)) refl (tt, tt) $ sets ! (agg ! (and_then ! (get ! refl) (no_more !))) refl (tt, (tt, tt)) $
       sets ! (agg ! (no_more !)) refl (tt, tt) $ sets ! (agg ! (and_then ! (get ! refl) (no_more !))) refl (tt, (tt, tt)) $
@@ -100,7 +92,7 @@ module _ (E : El) (Z : Al) {M : Type 1} {𝓤 : Ura M} (𝓛 : Logic 𝓤) (at_m
       as_written ! (ty_array (elτ E) len) b o $ use1 𝓛 (‵ (slots (R E) b o cells.slots)) (of_room E 𝓛 b len o) $
       flt_i ! (length cells.slots * s) (2 ^ 63) (subst (λ k. k * s < 2 ^ 63) (sym (length-replicate len None)) small) $ fjoin ! $
       use0 𝓛 (‵ ((Mark E).own_val (tt, tt) (mark ∷ []))) (mark_made E 𝓛) $ fjoin ! $ word_made ! p $
-      use3 𝓛 (‵ ((Three E Z).own_val (base, cells, lease) (made ∷ []))) (three_of 𝓛 (Bs E) (Cr E) (Dd E Z) base cells lease (word p) mark mark) $
+      use3 𝓛 (‵ ((Three E Z).own_val (base, cells, lease) (made ∷ []))) (three_of 𝓛 Pl (Cr E) (Dd E Z) base cells lease (word p) mark mark) $
       use1 𝓛 (‵ ((Out E Z).own_val (Ok (base, cells, lease)) (live 0 (vcons made vnil) ∷ []))) (ok_of 𝓛 (Three E Z) AE.the_row (base, cells, lease) made) $
       returns ! (look_at ! 0 refl) $ free_all ! refl $ keep ! (0 ∷ 1 ∷ 2 ∷ []) $ by ! (exits (Ok (base, cells, lease)) (live 0 (vcons made vnil)) (refl, refl, refl, refl, refl, tt)))
       (λ e.
@@ -121,20 +113,15 @@ module _ (E : El) (Z : Al) {M : Type 1} {𝓤 : Ura M} (𝓛 : Logic 𝓤) (at_m
       move ! (1 ∷ []) $ fsplit ! $ feq_l ! (λ e1. flt_l ! (λ fits. keep ! (0 ∷ 2 ∷ 3 ∷ []) $
       by ! (subst (λ (ws : List Val × List Val). ent 𝓤 (⋆ 𝓛 Had) (WpFn 𝓤 H C Λ (built_by E Z code.function) (ws.0 ++ (ws.1 ++ [])) Post)) (λ j. (sym e0 j, sym e1 j)) (walk asked fits)))))
 
--- so it meets its contract
-meets : (E : El) (Z : Al) {M : Type 1} {𝓤 : Ura M} (𝓛 : Logic 𝓤) (at_mem : Memory → SProp 𝓤) (run : Routine → Fun 𝓤) (𝓣 : Tables 𝓤 𝓛.H) → Triple 𝓤 (𝓣.C (takes_key Z)) (Takes Z 𝓛 at_mem run)
-    → Meets 𝓛 (ended E Z).signature (WpFn 𝓤 𝓛.H 𝓣.C 𝓣.Λ (built_by E Z code.function)) (closing 𝓛 (ended E Z) (clauses E Z 𝓛 at_mem run))
-meets E Z {𝓤 = 𝓤} 𝓛 at_mem run 𝓣 callee =
-    walk_Meets 𝓛 (ended E Z) (stayed E Z) (Goes-dropped 𝓛 3 (RefOf (0 ∷ []) tt (plain (λ _. P E Z)) (λ _. tt)) yes (λ κs x f. refl), (Goes-dropped 𝓛 3 (plain (λ _. usize)) yes (λ κs x f. refl), tt))
-    (clauses E Z 𝓛 at_mem run) (WpFn 𝓤 𝓛.H 𝓣.C 𝓣.Λ (built_by E Z code.function)) (WpFn-mono 𝓤 𝓛.H 𝓛.laws 𝓣 (built_by E Z code.function))
-    (λ z. let κs = z.0.0 in let qs = z.0.1 in let a = z.0.3 in let vss = z.0.4 in let On : SProp 𝓤 = on_entry 𝓛 (ended E Z).signature κs qs a vss in
-    let asks = FitsInBlock (R E) a.1.0 in
-    second 𝓤 (κs.1.0 ⊑ E.row.lives) (κs.1.1.0 ⊑ Z.row.lives) On (fact 𝓤 asks) (λ within. needs 𝓤 asks On
-    (entry E Z 𝓛 at_mem run 𝓣.C 𝓣.Λ (fm_of 𝓤 𝓛.H 𝓛.laws 𝓣) callee κs.0 κs.1.0 κs.1.1.0 qs.0 qs.1.0 qs.1.1.0 z.0.2.0 within a.0.ref_ptr.0 a.0.ref_ptr.1 a.0.now a.1.0 vss.0 vss.1.0)))
-
--- and so does each call of it
+-- so each call of it meets its contract
 pub allocate_spec : {M : Type 1} → stated.statement M
 unfolding tables_of
 allocate_spec 𝓤 𝓛 𝓜 𝓡 wired X W LX LW g d dd met md =
     let E : El = record { row = X; laws = LX } in let Z : Al = record { row = W; laws = LW; g = g; d = d; drops = dd } in let 𝓣 = machine 𝓤 𝓛 𝓜 𝓡 in
-    entered 𝓤 𝓛.H (triple_of 𝓛 (ended E Z).signature (F.spec X W g d dd 𝓛 𝓜.mem 𝓡.returns)) 𝓣.C 𝓣.Λ (#self (args E Z)) (built_by E Z code.function) (code.unfolded 𝓤 𝓛.H 𝓜 𝓡 wired (X, (W, tt)) d dd) (meets E Z 𝓛 𝓜.mem 𝓡.returns 𝓣 (met.allocate dd))
+    entered 𝓤 𝓛.H (triple_of 𝓛 (ended E Z).signature (F.spec X W g d dd 𝓛 𝓜.mem 𝓡.returns)) 𝓣.C 𝓣.Λ (#self (args E Z)) (built_by E Z code.function) (code.unfolded 𝓤 𝓛.H 𝓜 𝓡 wired (X, (W, tt)) d dd)
+    (walk_Meets 𝓛 (ended E Z) (stayed E Z) (Goes-dropped 𝓛 3 (RefOf (0 ∷ []) tt (plain (λ _. P E Z)) (λ _. tt)) yes (λ κs x f. refl), (Goes-dropped 𝓛 3 (plain (λ _. usize)) yes (λ κs x f. refl), tt))
+    (clauses E Z 𝓛 𝓜.mem 𝓡.returns) (WpFn 𝓤 𝓛.H 𝓣.C 𝓣.Λ (built_by E Z code.function)) (WpFn-mono 𝓤 𝓛.H 𝓛.laws 𝓣 (built_by E Z code.function))
+    (λ z. let κs = z.0.0 in let qs = z.0.1 in let a = z.0.3 in let vss = z.0.4 in let On : SProp 𝓤 = on_entry 𝓛 (ended E Z).signature κs qs a vss in
+    let asks = FitsInBlock (R E) a.1.0 in
+    second 𝓤 (κs.1.0 ⊑ E.row.lives) (κs.1.1.0 ⊑ Z.row.lives) On (fact 𝓤 asks) (λ within. needs 𝓤 asks On
+    (entry E Z 𝓛 𝓜.mem 𝓡.returns 𝓣.C 𝓣.Λ (fm_of 𝓤 𝓛.H 𝓛.laws 𝓣) (met.allocate dd) κs.0 κs.1.0 κs.1.1.0 qs.0 qs.1.0 qs.1.1.0 z.0.2.0 within a.0.ref_ptr.0 a.0.ref_ptr.1 a.0.now a.1.0 vss.0 vss.1.0))))

@@ -1,5 +1,4 @@
-use Rattle.std.proofs.Common.{◌+◌, ◌*◌, ◌<◌, ◌≤◌, ◌^◌, length, rules, ap, arith}
-use Rattle.dine_forks.proofs.SlotBits.{begins, has_bits, found_end, found_here, found_nowhere, found_later}
+use Rattle.dine_forks.proofs.Lemmas.{◌*◌, ◌≤◌, ◌^◌, rules, begins, has_bits, found_end, found_here, found_nowhere, found_later, ◌+◌, ◌<◌, length, ap, arith}
 use Rattle.dine_forks.proofs.slot_set.SlotSet.first_from.Goals as goal
 
 pub returns-then-from-self : goal.returns-then-from-self

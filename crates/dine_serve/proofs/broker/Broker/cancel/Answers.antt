@@ -1,16 +1,46 @@
-use Rattle.dine_serve.proofs.Waiting.{all-others-wait}
-use Rattle.dine_serve.proofs.Ordered.{in_order-taken_back}
+use Rattle.dine_serve.proofs.Words.{◌≡◌, ◌++◌, ◌∷◌, [], Some, ap, ◌∙◌, arith, text_of_lines, Cancelled, cancelled_line, in_order, is_noted, taken_back}
+use Rattle.dine_serve.specs.Serving.{Broker as Standing}
+use Rattle.dine_serve.proofs.Keeping.{Keeps, keeps-back, some-noted, told-back}
 use Rattle.dine_serve.proofs.broker.Broker.cancel.Goals as goal
+use Rattle.dine_serve.proofs.broker.Broker.cancel.Goals.{After-take_back-was_noted}
 
--- the others have to wait where one is taken back, and stand in order
+-- where one waits, they are some
+pub take_back-was_noted-requires : goal.take_back-was_noted-requires
+take_back-was_noted-requires c = λ waits.
+    let some = (some-noted c.self.inside.arbiter.table c.self.inside.waiters c.self.invariant c.args.pass c.args.task waits).1 in
+    omega (arith, some)
+
+-- ---- one is taken back, or none
+
+others : (c : After-take_back-was_noted) → Keeps c.self.inside.arbiter.table c.take_back-was_noted.new.self (taken_back c.args.pass c.args.task (in_order c.self.inside.arbiter.table.order c.self.inside.waiters.rows))
+others c = keeps-back c.self.inside.arbiter.table c.self.inside.waiters c.take_back-was_noted.new.self c.self.invariant c.args.pass c.args.task c.take_back-was_noted.result c.take_back-was_noted.ensures.found c.take_back-was_noted.ensures.left c.take_back-was_noted.ensures.len
+
+found : (c : After-take_back-was_noted) → c.take_back-was_noted.result ≡ is_noted c.args.pass c.args.task c.args.self.now.awaits
+found c =
+    c.take_back-was_noted.ensures.found
+    ∙ told-back c.self.inside.arbiter.table c.self.inside.waiters c.self.invariant c.args.pass c.args.task
+    ∙ ap (λ (b : Standing). is_noted c.args.pass c.args.task b.awaits) c.self.view_is
+
+after : (c : After-take_back-was_noted) → ◌≡◌ {A = Standing} record { table = c.self.inside.arbiter.table; awaits = in_order c.self.inside.arbiter.table.order c.take_back-was_noted.new.self.rows; receipts = c.self.inside.receipts.items; is_numbered = c.self.inside.is_numbered; lines = c.self.inside.lines; has_fault = c.self.inside.has_fault } (record c.args.self.now { awaits = taken_back c.args.pass c.args.task c.args.self.now.awaits })
+after c =
+    let i = c.self.inside in
+    ap (λ l. record { table = i.arbiter.table; awaits = l; receipts = i.receipts.items; is_numbered = i.is_numbered; lines = i.lines; has_fault = i.has_fault }) (others c).order
+    ∙ ap (λ (b : Standing). record b { awaits = taken_back c.args.pass c.args.task b.awaits }) c.self.view_is
+
 pub invariant_of-self : goal.invariant_of-self
-invariant_of-self c = record {
-  all_wait = λ rests. rw c.take_back-was_noted.ensures.left (all-others-wait c.self.inside.arbiter.table c.args.pass c.args.task c.self.inside.awaits (c.self.invariant.all_wait rests));
-  ordered = λ rests. rw c.take_back-was_noted.ensures.left (in_order-taken_back c.self.inside.arbiter.table.order c.args.pass c.args.task c.self.inside.awaits (c.self.invariant.ordered rests));
-}
+invariant_of-self c = (others (goal.at.invariant_of-self c).After-take_back-was_noted).kept
 
 pub invariant_of-self-2 : goal.invariant_of-self-2
-invariant_of-self-2 c = record {
-  all_wait = λ rests. rw c.take_back-was_noted.ensures.left (all-others-wait c.self.inside.arbiter.table c.args.pass c.args.task c.self.inside.awaits (c.self.invariant.all_wait rests));
-  ordered = λ rests. rw c.take_back-was_noted.ensures.left (in_order-taken_back c.self.inside.arbiter.table.order c.args.pass c.args.task c.self.inside.awaits (c.self.invariant.ordered rests));
-}
+invariant_of-self-2 c = (others (goal.at.invariant_of-self-2 c).After-take_back-was_noted).kept
+
+pub returns-in_err-push_cancelled_line-clause-after : goal.returns-in_err-push_cancelled_line-clause-after
+returns-in_err-push_cancelled_line-clause-after c = after (goal.at.returns-in_err-push_cancelled_line-clause-after c).After-take_back-was_noted
+
+pub returns-clause-answer : goal.returns-clause-answer
+returns-clause-answer c = ap (λ b. Some (Cancelled b c.args.task)) (found (goal.at.returns-clause-answer c).After-take_back-was_noted)
+
+pub returns-clause-after : goal.returns-clause-after
+returns-clause-after c = after (goal.at.returns-clause-after c).After-take_back-was_noted
+
+pub returns-clause-said : goal.returns-clause-said
+returns-clause-said c = c.in_ok-push_cancelled_line.ensures.ok ∙ ap (λ b. c.args.out.now.items ++ text_of_lines (cancelled_line b c.args.task ∷ [])) (found (goal.at.returns-clause-said c).After-take_back-was_noted)

@@ -3,4 +3,4 @@ use Rattle.dine_forks.proofs.CallerLemmas.{in_use_if_found}
 use Rattle.tests_forks.proofs.tests.forks.unlinked.Goals as goal
 
 pub unlink-requires : goal.unlink-requires
-unlink-requires c = in_use_if_found c.args.a c.args.b c.in-Some.id _ (sym c.find.ensures ∙ c.in-Some.is)
+unlink-requires c = in_use_if_found c.args.a c.args.b c.in_ok-id.id _ (sym c.find.ensures ∙ c.in_ok-id.was)

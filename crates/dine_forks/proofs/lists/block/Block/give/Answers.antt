@@ -1,5 +1,4 @@
-use Rattle.dine_forks.proofs.Words.{get_or, get_or-set_other, length-set, AreCells, AreLeft, Cell, InBlock, List, None, Option, Ptr, Some, ap, arith, length, set, subst, sym, ◌≡◌, ◌+◌, ◌∙◌, blank_node, block_nodes, nodes_from, vacant_cell, ◌++◌, ◌∷◌, []}
-use Rattle.dine_forks.proofs.Blocks.{given-cells, given-left, given-nodes, length-three, length_nodes, with_three}
+use Rattle.dine_forks.proofs.Lemmas.{get_or-set_other, length-set, AreCells, AreLeft, Cell, InBlock, List, None, Option, Ptr, Some, ap, arith, length, set, subst, sym, ◌≡◌, ◌+◌, ◌∙◌, blank_node, block_nodes, map, node_in, vacant_cell, ◌++◌, ◌∷◌, [], range_with_len, given-cells, given-left, given-nodes, length-three, length_nodes, with_three}
 use Rattle.dine_forks.specs.declared.lists.block.Part.TheVariants as part
 use Rattle.dine_forks.proofs.lists.block.Block.give.Goals.{After-write-3}
 use Rattle.dine_forks.proofs.lists.block.Block.give.Goals as goal
@@ -17,17 +16,13 @@ same c = c.write-3.ensures.0 ∙ c.write-2.ensures.0 ∙ c.write.ensures.0
 
 pub write-requires-2 : goal.write-requires-2
 write-requires-2 c =
-    let b = c.args.self.now in let h = c.requires.block in let lt = c.requires.left in let new = c.write.ensures in
-    let long = ap length new.1 ∙ length-set b.cells.slots b.given (Some c.vacant-vacant.result) ∙ h.places in
-    let empty = ap (λ (cs : List (Option Cell)). get_or cs (b.room + 1 + b.given) None) new.1 ∙ get_or-set_other b.cells.slots b.given (b.room + 1 + b.given) (Some c.vacant-vacant.result) None (λ e. let k = e in absurd (omega arith)) ∙ h.left part.Previous b.given (omega arith) lt in
-    (sym (new.0 ∙ h.owned.0), omega arith, empty)
+    let b = c.args.self.now in let h = c.requires.block in
+    grind (arith, length-set b.cells.slots b.given (Some c.vacant-vacant.result), get_or-set_other b.cells.slots b.given (b.room + 1 + b.given) (Some c.vacant-vacant.result) None, h.left part.Previous b.given, h.places, h.owned)
 
 pub write-requires-3 : goal.write-requires-3
 write-requires-3 c =
-    let b = c.args.self.now in let h = c.requires.block in let lt = c.requires.left in let one = c.write.ensures in let two = c.write-2.ensures in let cell = Some c.vacant-vacant.result in let all = b.room + 1 + (b.room + 1) + b.given in
-    let long = ap length (two.1 ∙ (λ j. set (one.1 j) (b.room + 1 + b.given) cell)) ∙ length-set (set b.cells.slots b.given cell) (b.room + 1 + b.given) cell ∙ length-set b.cells.slots b.given cell ∙ h.places in
-    let empty = ap (λ (cs : List (Option Cell)). get_or cs all None) (two.1 ∙ (λ j. set (one.1 j) (b.room + 1 + b.given) cell)) ∙ get_or-set_other (set b.cells.slots b.given cell) (b.room + 1 + b.given) all cell None (λ e. let k = e in absurd (omega arith)) ∙ get_or-set_other b.cells.slots b.given all cell None (λ e. let k = e in absurd (omega arith)) ∙ h.left part.All b.given (omega arith) lt in
-    (sym (two.0 ∙ one.0 ∙ h.owned.0), omega arith, empty)
+    let b = c.args.self.now in let h = c.requires.block in
+    grind (arith, length-set, get_or-set_other, h.left part.All b.given, h.places, h.owned)
 
 pub returns-clause-block : goal.returns-clause-block
 returns-clause-block c =
@@ -44,5 +39,5 @@ pub returns-clause-nodes : goal.returns-clause-nodes
 returns-clause-nodes c =
     let b = c.args.self.now in let h = c.requires.block in let lt = c.requires.left in
     let all = (goal.at.returns-clause-nodes c).After-write-3 in
-    (λ j. nodes_from (same all j) b.room (slots all j) 0 (b.given + 1)) ∙ given-nodes b.cells.at c.place.result b.room b.given b.cells.slots h.begins h.few c.place.ensures lt h.places
+    (λ j. map (node_in (same all j) b.room (slots all j)) (range_with_len 0 (b.given + 1))) ∙ given-nodes b.cells.at c.place.result b.room b.given b.cells.slots h.begins h.few c.place.ensures lt h.places
     ∙ ap (λ n. block_nodes b ++ blank_node n ∷ []) (sym (length_nodes b h))

@@ -1,10 +1,5 @@
 -- `at` shows one value that the places lend. Assumes `Logic`.
-use Rattle.dine_forks.proofs.Raw.{◌≡◌, refl, sym, ap, subst, ◌∙◌, ℕ, ◌+◌, ◌*◌, List, [], ◌∷◌, ◌++◌, Ura, full_share, named, Val, vptr, SProp, ent, never, id⊢, Lft, Share, ftrue}
-use Rattle.dine_forks.proofs.Raw.{fat, flft, Env, Calls, Loops, WpFn, Tables, Logic, fact, WpFn-mono, Item, ⋆, ‵, ◌⊛◌, at_ret, ◌$◌, ◌∵◌, !, qed, by, move, keep, drop}
-use Rattle.dine_forks.proofs.Raw.{use1, split, join, rewrite, fsplit, fjoin, feq_i, feq_l, suffices, frame, done, flt_l, whole, sub, stop, fld, of_opd, addr, first, blocks, exec, returns}
-use Rattle.dine_forks.proofs.Raw.{enter, alloc_all, pass_all, free_all, look_at, get, get_in, through, sets, sets_last, env, take_at, give_at, yes, no, owns, hidden_shr, layout, Ptr}
-use Rattle.dine_forks.proofs.Raw.{block_ptr, in_a_block, ShrRef, shr_ref_to, plain, hide, unhide, nothing, Clauses, Ended, closing, on_entry, Meets}
-use Rattle.dine_forks.proofs.Raw.{says, needs, walk_of, ends_at, Goes-dropped, walk_Meets, after, word, word-Good, get_or, None, El, R, args, ptr_add}
+use Rattle.dine_forks.proofs.Raw.{◌≡◌, refl, sym, ap, subst, ◌∙◌, ℕ, ◌+◌, ◌*◌, List, [], ◌∷◌, ◌++◌, Ura, full_share, named, Val, vptr, SProp, ent, never, id⊢, Lft, Share, ftrue, fat, flft, Env, Calls, Loops, WpFn, Logic, fact, WpFn-mono, Item, ⋆, ‵, ◌⊛◌, at_ret, ◌$◌, ◌∵◌, !, qed, by, move, keep, drop, use1, split, join, rewrite, fsplit, fjoin, feq_i, feq_l, suffices, frame, done, flt_l, whole, sub, stop, fld, of_opd, addr, first, blocks, exec, returns, enter, alloc_all, pass_all, free_all, look_at, get, get_in, through, sets, sets_last, env, take_at, give_at, yes, no, owns, hidden_shr, layout, Ptr, block_ptr, in_a_block, ShrRef, shr_ref_to, plain, hide, unhide, nothing, Clauses, Ended, on_entry, says, needs, walk_of, ends_at, Goes-dropped, walk_Meets, after, word, word-Good, get_or, None, El, R, args, ptr_add}
 use Rattle.dine_forks.specs.Ownership.{slot_lent, cells_lent}
 use Rattle.dine_forks.proofs.Memory.{built, lends, all_go, ref_at, at_index, IsHeld, Holds, called, Cr, Pl, sz, Place, word_had, filled_within, seen_at}
 use Rattle.dine_forks.specs.contracts.lists.cells.Cells.at.Key.{name as #self}
@@ -30,13 +25,6 @@ module _ (E : El) {M : Type 1} {𝓤 : Ura M} (𝓛 : Logic 𝓤) (C : Calls �
   abbrev Post : Val → SProp 𝓤
   Post = (walk_of 𝓛 (ended E) (all_go (ended E)) (spec E 𝓛)).post bound
 
-  -- what is left at its end is what it owes
-  exits : (r : (ShrRef (named 0) κ (R E)).Denot) (v : Val) → Holds E d place r.now → ent 𝓤 (⋆ 𝓛 (‵ (flft κ q) ∷ ‵ ((ShrRef (named 0) κ (R E)).own_val r (v ∷ [])) ∷ [])) (Post v)
-  exits r v g0 =
-      qed 𝓛 (‵ (flft κ q) ∷ ‵ ((ShrRef (named 0) κ (R E)).own_val r (v ∷ [])) ∷ []) ∵
-      suffices ! _ (ends_at 𝓛 (ended E) (all_go (ended E)) (spec E 𝓛) bound v r (tt, (tt, tt)) (tt, (tt, tt))) $ says ! g0 $
-      nothing ! $ move ! (1 ∷ 0 ∷ []) $ join ! $ frame ! $ nothing ! $ nothing ! $ fjoin ! $ nothing ! $ fjoin ! $ done !
-
   -- what it has at its start
   abbrev Had : List (Item 𝓤)
   Had = ‵ (hidden_shr (Cr E) κ d rb ro) ∷ ‵ (flft κ q) ∷ []
@@ -56,7 +44,8 @@ module _ (E : El) {M : Type 1} {𝓤 : Ura M} (𝓛 : Logic 𝓤) (C : Calls �
       rewrite ! 0 (λ (c : Place E). ‵ (slot_lent (R E) b (index * s + o) c κ)) asked.1.1 refl $ hide ! $
       sets_last ! (addr ! (through ! refl (stop !))) refl (tt, tt) $ exec ! C Λ En (after 1 (built E code.function).body) (at_ret En Post) $ sets ! (of_opd ! (get ! refl)) refl (tt, tt) $
       feq_i ! (List Val) (vptr b (index * s + o) ∷ []) (vptr b (index * s + o) ∷ []) refl $ fjoin ! $
-      returns ! (look_at ! 0 refl) $ free_all ! refl $ keep ! (1 ∷ 0 ∷ []) $ by ! (exits (record { ref_ptr = (b, index * s + o); now = x }) (vptr b (index * s + o)) asked.1.1))))
+      returns ! (look_at ! 0 refl) $ free_all ! refl $ keep ! (1 ∷ 0 ∷ []) $ suffices ! _ (ends_at 𝓛 (ended E) (all_go (ended E)) (spec E 𝓛) bound (vptr b (index * s + o)) (record { ref_ptr = (b, index * s + o); now = x }) (tt, (tt, tt)) (tt, (tt, tt))) $ says ! asked.1.1 $
+      nothing ! $ move ! (1 ∷ 0 ∷ []) $ join ! $ frame ! $ nothing ! $ nothing ! $ fjoin ! $ nothing ! $ fjoin ! $ done !)))
 
   -- its start, from what a call hands over
   entry : IsHeld E d place → ent 𝓤 (on_entry 𝓛 (ended E).signature (κ, tt) (q, tt) (ref_at rb ro d, (place, tt)) (us0, (us1, tt))) (WpFn 𝓤 H C Λ (built E code.function) (us0 ++ (us1 ++ [])) Post)
@@ -65,14 +54,10 @@ module _ (E : El) {M : Type 1} {𝓤 : Ura M} (𝓛 : Logic 𝓤) (C : Calls �
       split ! $ move ! (2 ∷ []) $ fsplit ! $ fsplit ! $ feq_l ! (λ e0. move ! (1 ∷ []) $ fsplit ! $ word_had ! place.ptr us1 (λ e1. keep ! (1 ∷ 2 ∷ []) $
       by ! (subst (λ (ws : List Val × List Val). ent 𝓤 (⋆ 𝓛 Had) (WpFn 𝓤 H C Λ (built E code.function) (ws.0 ++ (ws.1 ++ [])) Post)) (λ j. (sym e0 j, sym e1 j)) (walk asked))))
 
--- so it meets its contract
-meets : (E : El) {M : Type 1} {𝓤 : Ura M} (𝓛 : Logic 𝓤) (𝓣 : Tables 𝓤 𝓛.H)
-    → Meets 𝓛 (ended E).signature (WpFn 𝓤 𝓛.H 𝓣.C 𝓣.Λ (built E code.function)) (closing 𝓛 (ended E) (spec E 𝓛))
-meets E {𝓤 = 𝓤} 𝓛 𝓣 =
-    walk_Meets 𝓛 (ended E) (all_go (ended E)) (Goes-dropped 𝓛 1 (shr_ref_to (0 ∷ []) tt (plain (λ _. Cr E))) yes (λ κs x f. refl), (Goes-dropped 𝓛 1 (plain (λ _. Pl)) no (λ κs x f. refl), tt)) (spec E 𝓛) (WpFn 𝓤 𝓛.H 𝓣.C 𝓣.Λ (built E code.function)) (WpFn-mono 𝓤 𝓛.H 𝓛.laws 𝓣 (built E code.function))
-    (λ z. needs 𝓤 (IsHeld E z.0.3.0.now z.0.3.1.0) _ (entry E 𝓛 𝓣.C 𝓣.Λ z.0.0.0 z.0.1.0 z.0.3.0.ref_ptr.0 z.0.3.0.ref_ptr.1 z.0.3.0.now z.0.3.1.0 z.0.4.0 z.0.4.1.0))
-
--- and so does each call of it
+-- so each call of it meets its contract
 pub at_spec : {M : Type 1} → stated.statement M
 at_spec 𝓤 𝓛 𝓜 𝓡 wired X LX y =
-    called 𝓤 𝓛 𝓜 𝓡 (record { row = X; laws = LX }) ended (λ E. spec E 𝓛) (λ E. #self (args E)) code.function (code.unfolded 𝓤 𝓛.H 𝓜 𝓡 wired (X, tt)) (λ E. meets E 𝓛) ((y.0.0, y.0.1, tt, y.0.3, y.0.4), y.1)
+    called 𝓤 𝓛 𝓜 𝓡 (record { row = X; laws = LX }) ended (λ E. spec E 𝓛) (λ E. #self (args E)) code.function (code.unfolded 𝓤 𝓛.H 𝓜 𝓡 wired (X, tt))
+    (λ E 𝓣. walk_Meets 𝓛 (ended E) (all_go (ended E)) (Goes-dropped 𝓛 1 (shr_ref_to (0 ∷ []) tt (plain (λ _. Cr E))) yes (λ κs x f. refl), (Goes-dropped 𝓛 1 (plain (λ _. Pl)) no (λ κs x f. refl), tt)) (spec E 𝓛) (WpFn 𝓤 𝓛.H 𝓣.C 𝓣.Λ (built E code.function)) (WpFn-mono 𝓤 𝓛.H 𝓛.laws 𝓣 (built E code.function))
+    (λ z. needs 𝓤 (IsHeld E z.0.3.0.now z.0.3.1.0) _ (entry E 𝓛 𝓣.C 𝓣.Λ z.0.0.0 z.0.1.0 z.0.3.0.ref_ptr.0 z.0.3.0.ref_ptr.1 z.0.3.0.now z.0.3.1.0 z.0.4.0 z.0.4.1.0)))
+    ((y.0.0, y.0.1, tt, y.0.3, y.0.4), y.1)

@@ -1,11 +1,5 @@
 -- `at_mut` lends one value, and the places follow it. Assumes `Logic`.
-use Rattle.dine_forks.proofs.Raw.{◌≡◌, refl, sym, ap, subst, ◌∙◌, ℕ, ◌+◌, ◌*◌, ◌<◌, ◌^◌, List, [], ◌∷◌, ◌++◌, Ura, full_share, named, Val, vptr, SProp, ent, sep, never, id⊢, Lft, GName}
-use Rattle.dine_forks.proofs.Raw.{Share, Fml, ftrue, fsep, fat, flft, fobs, fbor, Env, Calls, Loops, WpFn, Tables, Logic, sem, fact, WpFn-mono, Item, ⋆, ‵, raw, ◌⊛◌, some, later}
-use Rattle.dine_forks.proofs.Raw.{await, pick, at_ret, ◌$◌, ◌∵◌, !, qed, by, move, keep, use1, use2, split, join, group, rewrite, fsplit, fsplit3, fjoin, fjoin3, fpack, feq_l, suffices, frame, done}
-use Rattle.dine_forks.proofs.Raw.{flt_l, flt_i, whole, sub, stop, fld, of_opd, addr, first, blocks, exec, returns, enter, alloc_all, pass_all, free_all, look_at, get, get_in, through, sets, sets_last}
-use Rattle.dine_forks.proofs.Raw.{env, take_at, give_at, no, owns, mem, cell_at, part_of, layout, Ptr, block_ptr, in_a_block, MutBor, MutRef, plain, mut_ref_to, nothing, opens}
-use Rattle.dine_forks.proofs.Raw.{Clauses, Ended, closing, on_entry, Meets, says, needs, walk_of, ends_at, Goes-dropped, Goes-spent_ref}
-use Rattle.dine_forks.proofs.Raw.{walk_Meets, after, word, word-Good, length, set, get_or, length-set, Some, None, El, R, args, el_x, ptr_add, follows, Part, lends_Part}
+use Rattle.dine_forks.proofs.Raw.{◌≡◌, refl, sym, ap, subst, ◌∙◌, ℕ, ◌+◌, ◌*◌, ◌<◌, ◌^◌, List, [], ◌∷◌, ◌++◌, Ura, full_share, named, Val, vptr, SProp, ent, sep, never, id⊢, Lft, GName, Share, Fml, ftrue, fsep, fat, flft, fobs, fbor, Env, Calls, Loops, WpFn, Logic, sem, fact, WpFn-mono, Item, ⋆, ‵, raw, ◌⊛◌, some, later, await, pick, at_ret, ◌$◌, ◌∵◌, !, qed, by, move, keep, use1, use2, split, join, group, rewrite, fsplit, fsplit3, fjoin, fjoin3, fpack, feq_l, suffices, frame, done, flt_l, flt_i, whole, sub, stop, fld, of_opd, addr, first, blocks, exec, returns, enter, alloc_all, pass_all, free_all, look_at, get, get_in, through, sets, sets_last, env, take_at, give_at, no, owns, mem, cell_at, part_of, layout, Ptr, block_ptr, in_a_block, MutBor, MutRef, plain, mut_ref_to, nothing, opens, Clauses, Ended, on_entry, says, needs, walk_of, ends_at, Goes-dropped, Goes-spent_ref, walk_Meets, after, word, word-Good, length, set, get_or, length-set, Some, None, El, R, args, el_x, ptr_add, follows, Part, lends_Part}
 use types.SemTy.{Body as Borrowed}
 use Rattle.dine_forks.specs.Ownership.{slot, slots, cells_own}
 use Rattle.dine_forks.proofs.Memory.{built, lends, all_go, mut_at, at_index, IsHeld, Holds, called, Cr, Pl, Mark, sz, Place, word_had, filled_within, Others, taken_out, put_back}
@@ -98,14 +92,10 @@ module _ (E : El) {M : Type 1} {𝓤 : Ura M} (𝓛 : Logic 𝓤) (C : Calls �
       keep ! (1 ∷ 2 ∷ 3 ∷ []) $
       by ! (subst (λ (ws : List Val × List Val). ent 𝓤 (⋆ 𝓛 Had) (WpFn 𝓤 H C Λ (built E code.function) (ws.0 ++ (ws.1 ++ [])) Post)) (λ j. (sym e0 j, sym e1 j)) (walk asked))))
 
--- so it meets its contract
-meets : (E : El) {M : Type 1} {𝓤 : Ura M} (𝓛 : Logic 𝓤) (𝓣 : Tables 𝓤 𝓛.H)
-    → Meets 𝓛 (ended E).signature (WpFn 𝓤 𝓛.H 𝓣.C 𝓣.Λ (built E code.function)) (closing 𝓛 (ended E) (spec E 𝓛))
-meets E {𝓤 = 𝓤} 𝓛 𝓣 =
-    walk_Meets 𝓛 (ended E) (all_go (ended E)) (Goes-spent_ref 𝓛 1 (0 ∷ []) tt (plain (λ _. Cr E)), (Goes-dropped 𝓛 1 (plain (λ _. Pl)) no (λ κs x f. refl), tt)) (spec E 𝓛) (WpFn 𝓤 𝓛.H 𝓣.C 𝓣.Λ (built E code.function)) (WpFn-mono 𝓤 𝓛.H 𝓛.laws 𝓣 (built E code.function))
-    (λ z. needs 𝓤 (IsHeld E z.0.3.0.now z.0.3.1.0) _ (entry E 𝓛 𝓣.C 𝓣.Λ z.0.0.0 z.0.1.0 z.0.3.0.ref_ptr.0 z.0.3.0.ref_ptr.1 z.0.3.0.ghost_name z.0.3.0.now z.0.3.1.0 z.0.4.0 z.0.4.1.0))
-
--- and so does each call of it
+-- so each call of it meets its contract
 pub at_mut_spec : {M : Type 1} → stated.statement M
 at_mut_spec 𝓤 𝓛 𝓜 𝓡 wired X LX y =
-    called 𝓤 𝓛 𝓜 𝓡 (record { row = X; laws = LX }) ended (λ E. spec E 𝓛) (λ E. #self (args E)) code.function (code.unfolded 𝓤 𝓛.H 𝓜 𝓡 wired (X, tt)) (λ E. meets E 𝓛) ((y.0.0, y.0.1, tt, y.0.3, y.0.4), y.1)
+    called 𝓤 𝓛 𝓜 𝓡 (record { row = X; laws = LX }) ended (λ E. spec E 𝓛) (λ E. #self (args E)) code.function (code.unfolded 𝓤 𝓛.H 𝓜 𝓡 wired (X, tt))
+    (λ E 𝓣. walk_Meets 𝓛 (ended E) (all_go (ended E)) (Goes-spent_ref 𝓛 1 (0 ∷ []) tt (plain (λ _. Cr E)), (Goes-dropped 𝓛 1 (plain (λ _. Pl)) no (λ κs x f. refl), tt)) (spec E 𝓛) (WpFn 𝓤 𝓛.H 𝓣.C 𝓣.Λ (built E code.function)) (WpFn-mono 𝓤 𝓛.H 𝓛.laws 𝓣 (built E code.function))
+    (λ z. needs 𝓤 (IsHeld E z.0.3.0.now z.0.3.1.0) _ (entry E 𝓛 𝓣.C 𝓣.Λ z.0.0.0 z.0.1.0 z.0.3.0.ref_ptr.0 z.0.3.0.ref_ptr.1 z.0.3.0.ghost_name z.0.3.0.now z.0.3.1.0 z.0.4.0 z.0.4.1.0)))
+    ((y.0.0, y.0.1, tt, y.0.3, y.0.4), y.1)

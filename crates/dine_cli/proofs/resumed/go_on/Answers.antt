@@ -1,0 +1,19 @@
+use Rattle.dine_script.proofs.CallerLemmas.{text_marked}
+use Rattle.dine_cli.proofs.Resuming.{version_told}
+use Rattle.dine_cli.proofs.resumed.go_on.Goals as goal
+
+pub returns-in-One-clause-ok : goal.returns-in-One-clause-ok
+returns-in-One-clause-ok g c =
+    let said = c.write_text.ensures in
+    rw c.in-One.is (version_told _ _ _ said.written said.ended)
+
+pub returns-in-One-clause-marks : goal.returns-in-One-clause-marks
+returns-in-One-clause-marks g c =
+    let said = c.write_text.ensures in
+    let marks = text_marked c.write_text.result (g.R.Source.mark c.args.reader.now) _ _ said.no_read said.mark said.unmarked in
+    record {
+      read_mark = λ failed. absurd (said.no_read failed);
+      write_mark = marks.write_mark;
+      read_unmarked = marks.read_unmarked;
+      write_unmarked = marks.write_unmarked;
+    }

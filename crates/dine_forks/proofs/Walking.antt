@@ -1,0 +1,193 @@
+-- A walk of a slot's list that runs rules at its records: one step, and what is left.
+use Rattle.dine_forks.proofs.Words.{◌≡◌, ℕ, ◌<◌, Bool, true, false, not, beq, eqb, List, [], ◌∷◌, length, map, list_all, set, None, Some, Option, if◌then◌else◌, ◌==◌, inl, inr, refl, sym, ap, ◌∙◌, arith, cases_Bool, eqb-true, nat_tests, sum_by, sum_by-cons, Fork, ForkId, ForkRecord, ForkBook, IsBook, EachIdOnce, EndsAreSlots, Onward, behind, book_with_fork, first_id, is_end, is_in_use, other_end, reached, record_of, slot_list, end_with, holder, dirtied, option_map, CanCount, CanPut, Count, IsCounted, IsTiedBut, IsSeenAlike, IsSided, both_recounted, recounted, count_at, count_in, is_marked, is_reached, is_reached_at, lacks, relieved, seen_book, seen_record, times_reached, walked_at, walked_fork, false≢true}
+use Rattle.dine_forks.specs.declared.record.At.{At}
+use Rattle.dine_forks.specs.Edges.{is_first}
+use Rattle.dine_forks.specs.Sending.{after}
+use Rattle.dine_forks.specs.declared.sent.Sent.TheVariants as sent
+use Rattle.dine_forks.specs.declared.rules.Reach.{Reach}
+use Rattle.dine_forks.specs.declared.rules.Reach.TheVariants as reach
+use Rattle.dine_forks.proofs.Marking.{put-seen}
+use Rattle.dine_forks.proofs.Seen.{next-seen, once-seen, record_of_seen, seen_all, seen-same, slot_list_seen}
+use Rattle.dine_forks.proofs.Counted.{end_in, end_of, few-in, some-at}
+use Rattle.dine_forks.proofs.Tied.{apart, found-alike, own-is, put-back, sided, tied-alike, within}
+use Rattle.dine_forks.proofs.Walks.{IsChanging, changing-on, found-used, rest_of, with_fork-same}
+
+-- ---- a record that a slot is at
+
+-- the slot is the first end of it or the second, and the other end is the other
+pub end-is : (slot : ℕ) (r : ForkRecord) (first : Bool) → is_end slot r ≡ true → first ≡ eqb slot r.first → (slot ≡ end_of first r) × (other_end slot r ≡ end_of (not first) r)
+end-is slot r true end is = (eqb-true slot r.first (sym is), rw (sym is) refl)
+end-is slot r false end is = (grind (arith, eqb-true slot r.second), rw (sym is) refl)
+
+module _ (at : At) (lists : ForkBook) (counts : List Count) (marks lacking : List Bool) (sound : IsBook lists) (h : CanPut at lists counts marks lacking) where
+  -- which end the slot is
+  abbrev own_end : Bool
+  own_end = is_first at.end
+
+  -- both ends of the record
+  ends : (at.slot ≡ end_of own_end at.visited) × (other_end at.slot at.visited ≡ end_of (not own_end) at.visited)
+  ends = end-is at.slot at.visited own_end h.listed.ends h.end
+
+  -- a fork at the side of the record's is counted at an end
+  counted-at : (first : Bool) (had : Fork) → IsSided had at.visited.fork → IsCounted first (end_of first at.visited) had counts
+  counted-at first had side =
+      let found = h.listed.found in let same = sided first had at.visited.fork side in
+      let is = own-is lists at.id at.visited first counts marks (set lacking at.slot false) sound found h.tied in
+      let some = some-at lists at.id at.visited sound found first in let few = few-in lists sound (end_of first at.visited) in
+      record {
+        within = (within lists at.id at.visited first counts marks (set lacking at.slot false) sound found h.tied).0;
+        lacked = rw (same.0, is) some.0;
+        asked = rw (same.1, is) some.1;
+        few = rw is few.0;
+        few_asked = rw is few.1;
+      }
+
+  -- so it is at both
+  pub can-count : (had : Fork) → IsSided had at.visited.fork → CanCount own_end at.slot (other_end at.slot at.visited) had counts
+  can-count had side = rw (ends.1, ends.0) record {
+    here = counted-at own_end had side;
+    there = counted-at (not own_end) had side;
+    apart = apart lists at.id at.visited own_end counts marks (set lacking at.slot false) sound h.listed.found h.tied;
+  }
+
+  -- the other end is a slot
+  pub other-in : other_end at.slot at.visited < lists.slots
+  other-in = rw ends.1 (end_in lists at.id at.visited sound h.listed.found (not own_end))
+
+  -- ---- another fork, once the end that is to hold it is ready
+
+  module _ (new : ForkBook) (new_marks : List Bool) (same : IsSeenAlike lists marks new new_marks) (new_sound : IsBook new) (fork : Fork) where
+    -- the record is there
+    pub put-used : is_in_use at.id new.records ≡ true
+    put-used = let (x, found, _, _, _) = found-alike lists new marks new_marks at.id at.visited same h.listed.found in found-used at.id new.records x found
+
+    -- its fork is seen where it is put
+    pub put-seen-at : (fork.dirty ≡ false → is_marked new_marks (end_with fork at.visited) ≡ false) → seen_book new_marks (book_with_fork at.id fork new) ≡ book_with_fork at.id fork (seen_book marks lists)
+    put-seen-at ready =
+        let (x, found, first_is, second_is, _) = found-alike lists new marks new_marks at.id at.visited same h.listed.found in
+        let free : fork.dirty ≡ false → is_marked new_marks (end_with fork x) ≡ false = λ clean. rw (first_is, second_is) (ready clean) in
+        (λ i. record new { records = put-seen new_marks at.id fork new.records x new_sound.each_id_once found free i })
+        ∙ ap (book_with_fork at.id fork) same.same
+
+    -- and all is tied again
+    pub put-tied : (had : Fork) → IsSided had at.visited.fork → (gained : Bool) → (lacks (not own_end) had ≡ true → lacks (not own_end) fork ≡ false → gained ≡ true)
+        → let other = other_end at.slot at.visited in let after = recounted (not own_end) had fork (count_at counts other) in
+        IsTiedBut at.slot (book_with_fork at.id fork new) (both_recounted own_end at.slot other had fork counts) new_marks (relieved other gained after.lacked lacking)
+    put-tied had sides gained gains =
+        let (x, found, first_is, second_is, side) = found-alike lists new marks new_marks at.id at.visited same h.listed.found in
+        let near : end_of own_end x ≡ at.slot = both own_end x first_is second_is ∙ sym ends.0 in
+        let far : end_of (not own_end) x ≡ other_end at.slot at.visited = both (not own_end) x first_is second_is ∙ sym ends.1 in
+        let before : IsTiedBut (end_of own_end x) new counts new_marks lacking = rw near (tied-alike lists new counts marks new_marks (set lacking at.slot false) same h.tied) in
+        let there : IsSided had x.fork = record { at = sides.at ∙ side.at; token = sides.token ∙ side.token } in
+        rw (near, far) at (put-back new at.id x own_end counts new_marks lacking new_sound found before fork had there gained gains)
+      where
+        -- the ends are the same
+        both : (b : Bool) (x : ForkRecord) → x.first ≡ at.visited.first → x.second ≡ at.visited.second → end_of b x ≡ end_of b at.visited
+        both true x f s = f
+        both false x f s = s
+
+-- a fork that is seen is at the side where it is written
+pub seen-sided : (marks : List Bool) (r : ForkRecord) → IsSided (seen_record marks r).fork r.fork
+seen-sided marks r = elim (cases_Bool (is_marked marks (holder r))) [ inl e ↦ rw e record { at = refl; token = refl } | inr e ↦ rw e record { at = refl; token = refl } ]
+
+-- who has a fork that is seen clean has no mark, whatever token is sent then
+pub seen-clean : (marks : List Bool) (r : ForkRecord) → (seen_record marks r).fork.dirty ≡ false → is_marked marks (end_with (after sent.Token (seen_record marks r).fork) r) ≡ false
+seen-clean marks r clean = elim (cases_Bool (is_marked marks (holder r))) [ inl e ↦ absurd (false≢true (sym clean ∙ rw e refl)) | inr e ↦ rw e e ]
+
+-- a slot that lacked a fork and has it gained it from the other end
+pub gains-is : (first : Bool) (had fork : Fork) → lacks (not first) had ≡ true → lacks (not first) fork ≡ false → beq had.at_first first ≡ true
+gains-is first had fork lacked has = grind (arith, beq)
+
+-- ---- one record, seen
+
+-- a walk looks at no dirt to know what it has to do with
+dirt-unreached : (r : Reach) (first : Bool) (f : Fork) → is_reached r first (dirtied f) ≡ is_reached r first f
+dirt-unreached reach.Lacked first f = refl
+dirt-unreached reach.Asked first f = refl
+dirt-unreached reach.All first f = refl
+
+-- so a record that is seen is reached where the written one is
+pub reached-seen : (reach : Reach) (slot : ℕ) (marks : List Bool) (r : ForkRecord) → is_reached_at reach slot (seen_record marks r) ≡ is_reached_at reach slot r
+reached-seen reach slot marks r = seen-same (is_reached_at reach slot) marks r (dirt-unreached reach (eqb slot r.first) r.fork)
+
+module _ (reach : Reach) (forks : Bool → ℕ → Fork → Fork) (slot : ℕ) (marks : List Bool) (r : ForkRecord) where
+  -- the rules are run at the fork that is seen of a record that is reached
+  pub runs : (first : Bool) → first ≡ eqb slot r.first → is_reached reach first r.fork ≡ true
+      → (walked_fork reach forks slot (seen_record marks r) ≡ forks first (other_end slot r) (seen_record marks r).fork) × (times_reached reach slot r ≡ 1)
+  runs first is hit =
+      let here : is_reached reach (eqb slot r.first) r.fork ≡ true = rw is at hit in
+      let dirt = dirt-unreached reach (eqb slot r.first) r.fork ∙ here in
+      rw is (elim (cases_Bool (is_marked marks (holder r))) [ inl m ↦ rw (m, dirt, here) (refl, refl) | inr m ↦ rw (m, here) (refl, refl) ])
+
+  -- and another stays
+  pub rests : (first : Bool) → first ≡ eqb slot r.first → is_reached reach first r.fork ≡ false
+      → (walked_fork reach forks slot (seen_record marks r) ≡ (seen_record marks r).fork) × (times_reached reach slot r ≡ 0)
+  rests first is hit =
+      let here : is_reached reach (eqb slot r.first) r.fork ≡ false = rw is at hit in
+      let dirt = dirt-unreached reach (eqb slot r.first) r.fork ∙ here in
+      elim (cases_Bool (is_marked marks (holder r))) [ inl m ↦ rw (m, dirt, here) (refl, refl) | inr m ↦ rw (m, here) (refl, refl) ]
+
+-- the fork of a record that is seen, in its own place
+pub kept-seen : (marks : List Bool) (book : ForkBook) (id : ForkId) (r : ForkRecord) → EachIdOnce book.records → record_of id book.records ≡ Some r → seen_book marks book ≡ book_with_fork id (seen_record marks r).fork (seen_book marks book)
+kept-seen marks book id r once found =
+    (λ i. record book { records = sym (with_fork-same id (seen_all marks book.records) (seen_record marks r) (once-seen marks book.records once) (record_of_seen marks id book.records ∙ ap (option_map (seen_record marks)) found)) i })
+
+-- ---- the list of a slot
+
+-- a record that a walk has nothing to do with stays
+pub idle : (reach : Reach) (forks : Bool → ℕ → Fork → Fork) (slot : ℕ) (r : ForkRecord) → times_reached reach slot r ≡ 0 → walked_fork reach forks slot r ≡ r.fork
+idle reach forks slot r none = elim (cases_Bool (is_reached_at reach slot r)) [ inl e ↦ absurd (let one : times_reached reach slot r ≡ 1 = rw e refl in omega (arith, one, none)) | inr e ↦ rw e refl ]
+
+-- what a walk has to do with, as it is counted
+pub reached-lacked : (slots slot : ℕ) (rs : List ForkRecord) → EndsAreSlots slots rs → sum_by (times_reached reach.Lacked slot) (slot_list slot rs) ≡ (count_in rs slot).lacked
+reached-lacked slots slot [] ends = refl
+reached-lacked slots slot (r ∷ rs) ends = grind (arith, nat_tests, ends.0, reached-lacked slots slot rs ends.3, sum_by-cons (times_reached reach.Lacked slot))
+
+-- so are those that it is asked for
+pub reached-asked : (slots slot : ℕ) (rs : List ForkRecord) → EndsAreSlots slots rs → sum_by (times_reached reach.Asked slot) (slot_list slot rs) ≡ (count_in rs slot).asked
+reached-asked slots slot [] ends = refl
+reached-asked slots slot (r ∷ rs) ends = grind (arith, nat_tests, ends.0, reached-asked slots slot rs ends.3, sum_by-cons (times_reached reach.Asked slot))
+
+-- and all are its degree
+pub reached-all : (slot : ℕ) (rs : List ForkRecord) → sum_by (times_reached reach.All slot) rs ≡ length rs
+reached-all slot [] = refl
+reached-all slot (r ∷ rs) = grind (arith, reached-all slot rs, sum_by-cons (times_reached reach.All slot) r rs)
+
+-- a walk with nothing to do changes nothing
+pub walk-idle : (reach : Reach) (forks : Bool → ℕ → Fork → Fork) (slot : ℕ) (rs : List ForkRecord) → sum_by (times_reached reach slot) (slot_list slot rs) ≡ 0 → map (walked_at reach forks slot) rs ≡ rs
+walk-idle reach forks slot [] none = refl
+walk-idle reach forks slot (r ∷ rs) none = elim (cases_Bool (is_end slot r)) [
+  | inr e ↦ rw e (ap (λ t. r ∷ t) (walk-idle reach forks slot rs (rw e at none)))
+  | inl e ↦
+      let sum = sym (sum_by-cons (times_reached reach slot) r (slot_list slot rs)) ∙ (rw e at none) in
+      let here : times_reached reach slot r ≡ 0 = omega (arith, sum) in let there : sum_by (times_reached reach slot) (slot_list slot rs) ≡ 0 = omega (arith, sum) in
+      rw (e, idle reach forks slot r here, walk-idle reach forks slot rs there) refl
+]
+
+-- what a walk has to do with is seen
+reached-all-seen : (reach : Reach) (slot : ℕ) (marks : List Bool) (rs : List ForkRecord) → sum_by (times_reached reach slot) (seen_all marks rs) ≡ sum_by (times_reached reach slot) rs
+reached-all-seen reach slot marks [] = refl
+reached-all-seen reach slot marks (r ∷ rs) =
+    sum_by-cons (times_reached reach slot) (seen_record marks r) (seen_all marks rs) ∙ rw (reached-seen reach slot marks r, reached-all-seen reach slot marks rs) (sym (sum_by-cons (times_reached reach slot) r rs))
+
+-- it is as many records as the slot lacks forks, is asked for, or has records
+pub reached-start : (reach : Reach) (slot left : ℕ) (marks : List Bool) (book : ForkBook) → sum_by (times_reached reach slot) (slot_list slot book.records) ≡ left → sum_by (times_reached reach slot) (slot_list slot (seen_all marks book.records)) ≡ left
+reached-start reach slot left marks book is = ap (sum_by (times_reached reach slot)) (slot_list_seen marks slot book.records) ∙ reached-all-seen reach slot marks (slot_list slot book.records) ∙ is
+
+-- what passes in each record passes in each that a walk goes on to
+pub all-goes_on : (p : ForkRecord → Bool) (left : ℕ) (next : Option ForkId) (rs : List ForkRecord) → list_all p (rest_of next rs) ≡ true → list_all p (rest_of (if left == 0 then None else next) rs) ≡ true
+all-goes_on p left next rs all = elim (cases_Bool (left == 0)) [ inl e ↦ rw e refl | inr e ↦ rw e all ]
+
+-- ---- a step
+
+-- the record that a walk is at, as it is seen
+pub found-seen : (marks : List Bool) (id : ForkId) (rs : List ForkRecord) (r : ForkRecord) → record_of id rs ≡ Some r → record_of id (seen_all marks rs) ≡ Some (seen_record marks r)
+found-seen marks id rs r found = record_of_seen marks id rs ∙ ap (option_map (seen_record marks)) found
+
+-- a step goes on behind the record that it has changed, by what is seen
+pub seen-on : (slot : ℕ) (change : ForkRecord → Fork) (all : ForkRecord → ForkRecord) (id : ForkId) (next next' : Option ForkId) (marks marks' : List Bool) (book book' start : ForkBook) (r : ForkRecord) (onward : Onward) → IsChanging slot change all next (seen_book marks book) start → next ≡ Some id → record_of id book.records ≡ Some r
+    → seen_book marks' book' ≡ book_with_fork id (change (seen_record marks r)) (seen_book marks book) → next' ≡ reached book' onward → reached book onward ≡ first_id (behind id (slot_list slot book.records))
+    → IsChanging slot change all next' (seen_book marks' book') start × (rest_of next (slot_list slot (seen_all marks book.records)) ≡ seen_record marks r ∷ rest_of next' (slot_list slot (seen_all marks' book'.records)))
+seen-on slot change all id next next' marks marks' book book' start r onward h here found written reaches follows =
+    changing-on slot change all id next next' (seen_book marks book) (seen_book marks' book') start (seen_record marks r) h here (found-seen marks id book.records r found) written
+    (reaches ∙ ap (λ (b : ForkBook). reached b onward) written ∙ follows ∙ sym (next-seen marks slot id book.records))

@@ -1,5 +1,0 @@
-use Rattle.dine_forks.proofs.Records.{found-used}
-use Rattle.dine_forks.proofs.ask.is_written_dirty.Goals as goal
-
-pub record-requires : goal.record-requires
-record-requires c = found-used c.args.id c.args.lists.now.records c.args.visited c.requires.found

@@ -1,0 +1,11 @@
+use Rattle.dine_forks.proofs.Lemmas.{sym, ◌∙◌, slot_list, reached-all, reached-asked, reached-lacked}
+use Rattle.dine_forks.proofs.walk.reached_of.Goals as goal
+
+pub returns-in-Lacked : goal.returns-in-Lacked
+returns-in-Lacked c = let lists = c.args.lists.now in rw (c.in-Lacked.is, c.requires.count) (sym (reached-lacked lists.slots c.args.slot lists.records c.are_sound.ensures.ends_are_slots))
+
+pub returns-in-Asked : goal.returns-in-Asked
+returns-in-Asked c = let lists = c.args.lists.now in rw (c.in-Asked.is, c.requires.count) (sym (reached-asked lists.slots c.args.slot lists.records c.are_sound.ensures.ends_are_slots))
+
+pub returns-in-All : goal.returns-in-All
+returns-in-All c = rw c.in-All.is (c.degree.ensures ∙ sym (reached-all c.args.slot (slot_list c.args.slot c.args.lists.now.records)))

@@ -1,0 +1,56 @@
+use Rattle.dine_forks.proofs.Lemmas.{◌≡◌, Some, is_reached, refl, ap, sym, ◌∙◌, arith, book_with_fork, seen_book, other_end_of_used, holder-within, kept-seen, rests, runs}
+use Rattle.dine_forks.proofs.Walks.{found-used}
+use Rattle.dine_forks.proofs.walk.step_at.Given.{Over}
+use Rattle.dine_forks.proofs.walk.step_at.Goals.{After-is_reached, After-record-visited}
+use Rattle.dine_forks.proofs.walk.step_at.Goals as goal
+
+pub record-visited-requires : goal.record-visited-requires
+record-visited-requires g c = found-used c.args.at.now.id c.args.lists.now.records c.args.at.now.visited c.requires.can.can.listed.found
+
+-- the record is as it was read before
+same : (g : Over) (c : After-record-visited g) → c.record-visited.result ≡ c.args.at.now.visited
+same g c = let k : Some c.record-visited.result ≡ Some c.args.at.now.visited = sym c.record-visited.ensures.found ∙ c.requires.can.can.listed.found in cc
+
+pub seen-requires : goal.seen-requires
+seen-requires g c =
+    let at = c.args.at.now in
+    rw c.requires.can.can.tied.marked (holder-within c.args.lists.now.slots at.id c.args.lists.now.records c.record-visited.result c.are_sound.ensures.ends_are_slots c.record-visited.ensures.found)
+
+pub sent-sent-requires-clause-other : goal.sent-sent-requires-clause-other
+sent-sent-requires-clause-other g c =
+    let at = c.args.at.now in
+    let below = other_end_of_used c.args.lists.now.slots at.slot at.id c.args.lists.now.records at.visited c.are_sound.ensures.ends_are_slots c.requires.can.can.listed.found in
+    rw c.other.ensures (omega (arith, below, c.requires.known))
+
+pub is_reached-requires : goal.is_reached-requires
+is_reached-requires g c = found-used c.args.at.now.id c.args.lists.now.records c.args.at.now.visited c.requires.can.can.listed.found
+
+-- the walk has to do with the record by its fork
+told : (g : Over) (c : After-is_reached g) → c.is_reached.result ≡ is_reached c.reach.result c.is_first.result c.args.at.now.visited.fork
+told g c = rw c.requires.can.can.listed.found at c.is_reached.ensures
+
+pub returns-then-is_reached : goal.returns-then-is_reached
+returns-then-is_reached g c =
+    let at = c.args.at.now in let reach = g.R.Rules.reach c.args.rules.now in let forks = g.R.Rules.forks c.args.rules.now in
+    let is = runs reach forks at.slot c.args.marks.now at.visited c.is_first.result (c.is_first.ensures ∙ c.requires.can.can.end) (rw (← c.reach.ensures) (sym (told g (goal.at.returns-then-is_reached g c).After-is_reached) ∙ c.if-is_reached.true)) in
+    record {
+      tied = c.send.ensures.tied;
+      slots = c.send.ensures.slots;
+      off = c.send.ensures.off;
+      book = c.send.ensures.book ∙ ap (λ f. book_with_fork at.id f (seen_book c.args.marks.now c.args.lists.now)) (c.sent-sent.ensures ∙ rw (c.is_first.ensures, c.other.ensures, c.met-fork.ensures, c.seen.ensures, same g (goal.at.returns-then-is_reached g c).After-record-visited) refl ∙ sym is.0);
+      left = (let some = c.requires.can.left in let one = is.1 in omega arith);
+      next = c.onward-onward.ensures;
+    }
+
+pub returns-else-is_reached : goal.returns-else-is_reached
+returns-else-is_reached g c =
+    let at = c.args.at.now in let reach = g.R.Rules.reach c.args.rules.now in let forks = g.R.Rules.forks c.args.rules.now in
+    let is = rests reach forks at.slot c.args.marks.now at.visited c.is_first.result (c.is_first.ensures ∙ c.requires.can.can.end) (rw (← c.reach.ensures) (sym (told g (goal.at.returns-else-is_reached g c).After-is_reached) ∙ c.if-is_reached.false)) in
+    record {
+      tied = c.requires.can.can.tied;
+      slots = refl;
+      off = λ is. is;
+      book = rw is.0 (kept-seen c.args.marks.now c.args.lists.now at.id at.visited c.are_sound.ensures.each_id_once c.requires.can.can.listed.found);
+      left = rw is.1 (omega arith);
+      next = c.onward-onward.ensures;
+    }

@@ -1,0 +1,87 @@
+-- A walk of a slot's list that runs rules at its records.
+use Rattle.std.specs.Prelude.{◌≡◌, ℕ, ◌+◌, ◌==◌, ◌≤◌, Bool, true, false, not, ◌||◌, if◌then◌else◌, List, map, slice_set}
+use Rattle.std.specs.List.{list_all}
+use Rattle.dine_forks.specs.declared.record.At.{At}
+use Rattle.dine_forks.specs.declared.rules.Reach.{Reach}
+use Rattle.dine_forks.specs.declared.rules.Reach.TheVariants as reach
+use Rattle.dine_forks.specs.Book.{Fork, ForkBook, ForkRecord, IsAt, Onward, behind, book_with_fork, changed_where, first_id, is_end, other_end, reached, slot_list}
+use Rattle.dine_forks.specs.Counts.{Count, IsTied, is_asked, lacks, one_if}
+use Rattle.dine_forks.specs.Edges.{is_first}
+use Rattle.dine_forks.specs.Marks.{is_marked, seen_book, seen_record}
+
+-- a walk has to do with a fork whose first end is the slot, or whose second
+abbrev pub is_reached : Reach → Bool → Fork → Bool
+is_reached reach.Lacked first fork = lacks first fork
+is_reached reach.Asked first fork = is_asked first fork
+is_reached reach.All first fork = true
+
+-- it has to do with the record
+abbrev pub is_reached_at : Reach → ℕ → ForkRecord → Bool
+is_reached_at reach slot r = is_reached reach (slot == r.first) r.fork
+
+-- 1 if it has to do with the record, and else 0
+abbrev pub times_reached : Reach → ℕ → ForkRecord → ℕ
+times_reached reach slot r = one_if (is_reached_at reach slot r)
+
+-- ---- one record
+
+-- the fork of a record of the slot, once the rules have run there if they reach it
+abbrev pub walked_fork : Reach → (Bool → ℕ → Fork → Fork) → ℕ → ForkRecord → Fork
+walked_fork reach forks slot r = if is_reached_at reach slot r then forks (slot == r.first) (other_end slot r) r.fork else r.fork
+
+-- the record so, if the slot is an end
+abbrev pub walked_at : Reach → (Bool → ℕ → Fork → Fork) → ℕ → ForkRecord → ForkRecord
+walked_at reach forks slot r = changed_where (is_end slot) (walked_fork reach forks slot) r
+
+-- the book so
+abbrev pub walked_book : Reach → (Bool → ℕ → Fork → Fork) → ℕ → ForkBook → ForkBook
+walked_book reach forks slot book = record book { records = map (walked_at reach forks slot) book.records }
+
+-- the fork of a record is such as the rules meet, or they don't reach it
+abbrev pub is_met_at : Reach → (Bool → Fork → Bool) → ℕ → ForkRecord → Bool
+is_met_at reach meets slot r = meets (slot == r.first) r.fork || not (is_reached_at reach slot r)
+
+-- so is that of each record of the slot
+abbrev pub DoMeet : Reach → (Bool → Fork → Bool) → ℕ → ForkBook → Type 0
+DoMeet reach meets slot book = list_all (is_met_at reach meets slot) (slot_list slot book.records) ≡ true
+
+-- ---- a step of the walk
+
+-- all is tied, where the slot is out of the set
+abbrev pub IsTiedBut : ℕ → ForkBook → List Count → List Bool → List Bool → Type 0
+IsTiedBut slot book counts marks lacking = IsTied book counts marks (slice_set lacking slot false)
+
+-- the slot is at a record
+pub record CanPut (at : At) (book : ForkBook) (counts : List Count) (marks lacking : List Bool) : Type 0 where
+  pub listed : IsAt at.slot at.id at.visited book.records
+  pub end : is_first at.end ≡ (at.slot == at.visited.first)
+  pub tied : IsTiedBut at.slot book counts marks lacking
+  pub own : at.unmarked ≡ true → is_marked marks at.slot ≡ false
+
+-- a slot that has no mark gets none
+abbrev pub StaysOff : ℕ → List Bool → List Bool → Type 0
+StaysOff slot old_marks marks = is_marked old_marks slot ≡ false → is_marked marks slot ≡ false
+
+-- the two forks are at one side, and so are their tokens
+pub record IsSided (a b : Fork) : Type 0 where
+  pub at : a.at_first ≡ b.at_first
+  pub token : a.token_first ≡ b.token_first
+
+-- a walk is at a record, and has still to do with so many, among them this one where it reaches it
+pub record CanStep (reach : Reach) (meets : Bool → Fork → Bool) (at : At) (count : ℕ) (book : ForkBook) (counts : List Count) (marks lacking : List Bool) : Type 0 where
+  pub can : CanPut at book counts marks lacking
+  pub left : times_reached reach at.slot at.visited ≤ count
+  pub met : is_met_at reach meets at.slot (seen_record marks at.visited) ≡ true
+
+-- it has run the rules there if they reach it, has to do with so many yet, and is told what follows
+pub record HasStepped
+    (reach : Reach) (forks : Bool → ℕ → Fork → Fork) (at : At) (before : ℕ) (old : ForkBook) (old_marks : List Bool)
+    (after : ℕ) (new : ForkBook) (counts : List Count) (marks lacking : List Bool) (onward : Onward) : Type 0 where
+  pub tied : IsTiedBut at.slot new counts marks lacking
+  pub slots : new.slots ≡ old.slots
+  pub off : StaysOff at.slot old_marks marks
+  pub book :
+      seen_book marks new
+      ≡ book_with_fork at.id (walked_fork reach forks at.slot (seen_record old_marks at.visited)) (seen_book old_marks old)
+  pub left : after + times_reached reach at.slot at.visited ≡ before
+  pub next : reached old onward ≡ first_id (behind at.id (slot_list at.slot old.records))

@@ -1,0 +1,124 @@
+-- What a broker keeps of those who wait: at the opening, where one is noted or taken back, and after a call.
+use Rattle.dine_serve.proofs.Words.{◌≡◌, ◌⊎◌, ℕ, suc, ◌+◌, ◌-◌, Bool, true, false, if◌then◌else◌, List, [], ◌∷◌, ◌++◌, length, map, Option, inl, inr, refl, sym, ap, ◌∙◌, subst, arith, Call, Reply, Joined, Done, Refused, Task, entry_text, text_of_lines, may_end_waits, Table, has_to_wait, reply_of, table_after_call, IsSound, Await, Receipt, AreQueued, AreSeated, Changes, IsKept, SameQueues, Waiters, in_order, queue_at, Broker, after_begins, after_making, retries_after, AllWait, InOrder, begun_after, begun_from, is_noted, noted, receipts_begun, retries_waits, still_waiting, table_begun, taken_back}
+use Rattle.dine_words.specs.declared.call.Call.TheVariants as call
+use Rattle.dine_serve.proofs.Gathered.{told}
+use Rattle.dine_serve.proofs.Ordered.{in_order-noted, in_order-taken_back}
+use Rattle.dine_serve.proofs.Queueing.{back-length, back-none, back-queued, back-seated, noted-at, noted-length, noted-queued, noted-seated}
+use Rattle.dine_serve.proofs.Retrying.{seated-waits}
+use Rattle.dine_serve.proofs.Staying.{may_end-waits}
+use Rattle.dine_serve.proofs.Waiting.{all-noted-wait, all-others-wait, all-wait-on}
+
+-- those who wait stand so, and are kept
+pub record Keeps (t : Table) (w : Waiters) (xs : List Await) : Type 0 where
+  pub order : in_order t.order w.rows ≡ xs
+  pub kept : IsKept t w
+
+-- they are, where they have what is kept of them
+keeps : (t : Table) (w : Waiters) (xs : List Await) → IsSound t → AreSeated t.order xs → InOrder t.order xs → AreQueued w.rows xs → AllWait t xs → w.len ≡ length xs → Keeps t w xs
+keeps t w xs sound seated ordered queued wait counted =
+    let is = told t.order w.rows xs sound.each_slot_once seated ordered queued in
+    record {
+      order = is;
+      kept = record {
+        sound = sound;
+        all_wait = subst (AllWait t) (sym is) wait;
+        held = record { seated = subst (AreSeated t.order) (sym is) seated; queued = subst (AreQueued w.rows) (sym is) queued };
+        ordered = subst (InOrder t.order) (sym is) ordered;
+        counted = counted ∙ ap length (sym is);
+      };
+    }
+
+-- nobody waits
+pub keeps-none : (t : Table) (w : Waiters) → IsSound t → w.rows ≡ [] → w.len ≡ 0 → Keeps t w []
+keeps-none t w sound none counted = keeps t w [] sound tt tt (λ slot. ap (λ rows. queue_at rows slot) none) tt counted
+
+module _ (t : Table) (w w' : Waiters) (k : IsKept t w) where
+  abbrev all : List Await
+  all = in_order t.order w.rows
+
+  -- the queues are as they were
+  pub keeps-same : SameQueues w.rows w'.rows → w'.len ≡ w.len → Keeps t w' all
+  keeps-same same len = keeps t w' all k.sound k.held.seated k.ordered (λ slot. same slot ∙ k.held.queued slot) k.all_wait (len ∙ k.counted)
+
+  -- one is noted who has to wait
+  pub keeps-noted : (a : Await) → has_to_wait t a.task ≡ true → Changes w.rows w'.rows a.task.slot (queue_at w.rows a.task.slot ++ a ∷ []) → w'.len ≡ w.len + 1 → Keeps t w' (noted t.order a all)
+  keeps-noted a waits changes len =
+      let here = seated-waits t a.task waits in
+      keeps t w' (noted t.order a all) k.sound
+      (noted-seated t.order k.sound.each_slot_once a here all k.held.seated)
+      (in_order-noted t.order a all k.ordered)
+      (noted-queued t.order k.sound.each_slot_once a here w.rows w'.rows all k.held.seated k.ordered k.held.queued changes)
+      (all-noted-wait t t.order a all waits k.all_wait)
+      (len ∙ ap (λ n. n + 1) k.counted ∙ sym (noted-length t.order a all))
+
+  -- one is taken back, or none
+  pub keeps-back : (pass : ℕ) (u : Task) (found : Bool) → found ≡ is_noted pass u (queue_at w.rows u.slot) → Changes w.rows w'.rows u.slot (taken_back pass u (queue_at w.rows u.slot)) → w'.len ≡ (if found then w.len - 1 else w.len) → Keeps t w' (taken_back pass u all)
+  keeps-back pass u found told changes len =
+      keeps t w' (taken_back pass u all) k.sound
+      (back-seated pass u t.order all k.held.seated)
+      (in_order-taken_back t.order pass u all k.ordered)
+      (back-queued pass u w.rows w'.rows all k.held.queued changes)
+      (all-others-wait t pass u all k.all_wait)
+      (by found (found-all pass u found told) len)
+    where
+      found-all : (pass : ℕ) (u : Task) (found : Bool) → found ≡ is_noted pass u (queue_at w.rows u.slot) → is_noted pass u all ≡ found
+      found-all pass u found told = sym (told ∙ ap (is_noted pass u) (k.held.queued u.slot) ∙ noted-at pass u all)
+
+      by : (found : Bool) → is_noted pass u all ≡ found → w'.len ≡ (if found then w.len - 1 else w.len) → w'.len ≡ length (taken_back pass u all)
+      by true is len = let fewer = back-length pass u all is in let counted = k.counted in omega (arith, len, fewer, counted)
+      by false is len = len ∙ k.counted ∙ ap length (sym (back-none pass u all is))
+
+-- what is told of a queue is told of all who wait
+pub told-back : (t : Table) (w : Waiters) (k : IsKept t w) (pass : ℕ) (u : Task) → is_noted pass u (queue_at w.rows u.slot) ≡ is_noted pass u (in_order t.order w.rows)
+told-back t w k pass u = ap (is_noted pass u) (k.held.queued u.slot) ∙ noted-at pass u (in_order t.order w.rows)
+
+-- where one waits, they are some
+pub some-noted : (t : Table) (w : Waiters) (k : IsKept t w) (pass : ℕ) (u : Task) → is_noted pass u (queue_at w.rows u.slot) ≡ true → (n : ℕ) × (w.len ≡ suc n)
+some-noted t w k pass u h =
+    let fewer = back-length pass u (in_order t.order w.rows) (sym (told-back t w k pass u) ∙ h) in
+    let counted = k.counted in
+    (length (taken_back pass u (in_order t.order w.rows)), omega (arith, fewer, counted))
+
+-- ---- a call
+
+-- where nobody waits, or the call can't have ended a wait, all have to wait after it
+pub called-rests : (t : Table) (c : Call) (w : Waiters) → IsKept t w → (w.len ≡ 0) ⊎ (may_end_waits c (reply_of t c) ≡ false) → AllWait (table_after_call t c) (in_order t.order w.rows)
+called-rests t c w k (inl none) = nobody (in_order t.order w.rows) (sym k.counted ∙ none)
+  where
+    nobody : (xs : List Await) → length xs ≡ 0 → AllWait (table_after_call t c) xs
+    nobody [] h = tt
+    nobody (x ∷ xs) h = absurd (omega (arith, h))
+called-rests t c w k (inr none) = all-wait-on t (table_after_call t c) (in_order t.order w.rows) (may_end-waits t c none) k.all_wait
+
+-- a call that may have ended waits is one after which begins are tried again
+pub ends-retries : (c : Call) (reply : Reply) → may_end_waits c reply ≡ true → retries_waits c reply ≡ true
+ends-retries call.Join reply h = absurd (let two : false ≡ true = h in cc)
+ends-retries (call.Leave u) reply h = absurd (let two : false ≡ true = h in cc)
+ends-retries (call.Conflict u v) reply h = absurd (let two : false ≡ true = h in cc)
+ends-retries (call.Hungry u) reply h = absurd (let two : false ≡ true = h in cc)
+ends-retries (call.Begin u) reply h = absurd (let two : false ≡ true = h in cc)
+ends-retries (call.Separate u v) Done h = refl
+ends-retries (call.Separate u v) (Joined x) h = absurd (let two : false ≡ true = h in cc)
+ends-retries (call.Separate u v) (Refused x) h = absurd (let two : false ≡ true = h in cc)
+ends-retries (call.Finish u) Done h = refl
+ends-retries (call.Finish u) (Joined x) h = absurd (let two : false ≡ true = h in cc)
+ends-retries (call.Finish u) (Refused x) h = absurd (let two : false ≡ true = h in cc)
+ends-retries (call.Withdraw u) Done h = refl
+ends-retries (call.Withdraw u) (Joined x) h = absurd (let two : false ≡ true = h in cc)
+ends-retries (call.Withdraw u) (Refused x) h = absurd (let two : false ≡ true = h in cc)
+
+module _ (s : Broker) (c : Call) (ends : retries_after s c ≡ true) where
+  abbrev after : Table
+  after = table_after_call s.table c
+
+  -- where all were tried, the broker stands as it is to stand
+  pub made-all : (t' : Table) (awaits' : List Await) (receipts' : List (Option Receipt)) → t' ≡ table_begun after s.awaits → awaits' ≡ still_waiting after s.awaits → receipts' ≡ receipts_begun after s.awaits s.receipts → record s { table = t'; awaits = awaits'; receipts = receipts' } ≡ after_making s c
+  made-all t' awaits' receipts' table left kept =
+      ap (λ x. record s { table = x; awaits = awaits'; receipts = receipts' }) table
+      ∙ ap (λ x. record s { table = table_begun after s.awaits; awaits = x; receipts = receipts' }) left
+      ∙ ap (λ x. record s { table = table_begun after s.awaits; awaits = still_waiting after s.awaits; receipts = x }) kept
+      ∙ ap (λ b. after_begins b (record s { table = after })) (sym ends)
+
+  -- and their lines stand behind the call's
+  pub said-all : (mid later : List ℕ) → later ≡ mid ++ text_of_lines (map entry_text (begun_from after s.awaits)) → later ≡ mid ++ text_of_lines (map entry_text (begun_after (retries_after s c) after s.awaits))
+  said-all mid later said = said ∙ ap (λ b. mid ++ text_of_lines (map entry_text (begun_after b after s.awaits))) (sym ends)

@@ -1,0 +1,175 @@
+-- What the queues have where one who waits is noted, taken back, or begins.
+use Rattle.dine_serve.proofs.Words.{◌≡◌, ℕ, ◌+◌, eqb, true, false, if◌then◌else◌, List, [], ◌∷◌, ◌++◌, length, is_some, inl, inr, refl, sym, ap, ◌∙◌, subst, arith, eq-eqb, cases_Bool, eqb-true, and_parts, nat_tests, filter, Diner, Task, same_task, stands_before, state_in, same_slot, one_in_slot, Await, AreQueued, AreSeated, Changes, queue_at, waits_at, InOrder, NoneBefore, is_await_of, is_noted, noted, taken_back}
+use Rattle.std.specs.List.{IsDistinct}
+
+-- nobody stands before itself
+pub before-itself : (order : List Diner) (u : Task) → stands_before order u u ≡ false
+before-itself [] u = refl
+before-itself (d ∷ ds) u = elim (cases_Bool (same_task d.task u)) [
+  | inl e ↦ rw e refl
+  | inr e ↦ rw e (before-itself ds u)
+]
+
+-- whoever stands before a task stands before one that doesn't stand before that
+before-later : (order : List Diner) (u a b : Task) → stands_before order u a ≡ true → stands_before order b a ≡ false → stands_before order u b ≡ true
+before-later [] u a b h k = absurd (let no_way : false ≡ true = h in cc)
+before-later (d ∷ ds) u a b h k = elim (cases_Bool (same_task d.task a)) [
+  | inl e ↦ absurd (let no_way : false ≡ true = rw e at h in cc)
+  | inr e ↦ elim (cases_Bool (same_task d.task b)) [
+    | inl f ↦ absurd (let no_way : true ≡ false = rw (e, f) at k in cc)
+    | inr f ↦ elim (cases_Bool (same_task d.task u)) [
+      | inl g ↦ rw (f, g) refl
+      | inr g ↦ rw (f, g) (before-later ds u a b (rw (e, g) at h) (rw (e, f) at k))
+    ]
+  ]
+]
+
+-- two that are present and wait at one slot are of one task
+pub one_task : (order : List Diner) (u v : Task) → IsDistinct same_slot order → is_some (state_in order u) ≡ true → is_some (state_in order v) ≡ true → eqb u.slot v.slot ≡ true → u ≡ v
+one_task order u v apart here there slot = one_in_slot order apart u v here there (eqb-true u.slot v.slot slot)
+
+-- ---- noting
+
+module _ (order : List Diner) (apart : IsDistinct same_slot order) (a : Await) (here : is_some (state_in order a.task) ≡ true) where
+  -- the task's own don't wait behind another task before which it stands
+  none-past : (b : Task) (xs : List Await) → stands_before order a.task b ≡ true → AreSeated order xs → NoneBefore order b xs → filter (waits_at a.task.slot) xs ≡ []
+  none-past b [] before seated none = refl
+  none-past b (x ∷ xs) before seated none = elim (cases_Bool (waits_at a.task.slot x)) [
+    | inr e ↦ rw e (none-past b xs before seated.1 none.1)
+    | inl e ↦
+        let same : a.task ≡ x.task = one_task order a.task x.task apart here seated.0 e in
+        let later : stands_before order a.task x.task ≡ true = before-later order a.task b x.task before none.0 in
+        absurd (let two : true ≡ false = sym later ∙ ap (stands_before order a.task) (sym same) ∙ before-itself order a.task in cc)
+  ]
+
+  -- one who is noted comes behind those of its task
+  noted-own : (xs : List Await) → AreSeated order xs → InOrder order xs → filter (waits_at a.task.slot) (noted order a xs) ≡ filter (waits_at a.task.slot) xs ++ a ∷ []
+  noted-own [] seated ordered = rw (eq-eqb a.task.slot a.task.slot refl) refl
+  noted-own (b ∷ bs) seated ordered = elim (cases_Bool (stands_before order a.task b.task)) [
+    | inl e ↦
+        let own : eqb a.task.slot a.task.slot ≡ true = eq-eqb a.task.slot a.task.slot refl in
+        let none : filter (waits_at a.task.slot) (b ∷ bs) ≡ [] = none-past b.task (b ∷ bs) e seated (before-itself order b.task, ordered.0) in
+        rw e (rw own (ap (λ l. a ∷ l) none ∙ sym (ap (λ l. l ++ a ∷ []) none)))
+    | inr e ↦ rw e (elim (cases_Bool (waits_at a.task.slot b)) [
+      | inl f ↦ rw f (ap (λ l. b ∷ l) (noted-own bs seated.1 ordered.1))
+      | inr f ↦ rw f (noted-own bs seated.1 ordered.1)
+    ])
+  ]
+
+  -- elsewhere nobody is noted
+  noted-other : (s : ℕ) (xs : List Await) → eqb s a.task.slot ≡ false → filter (waits_at s) (noted order a xs) ≡ filter (waits_at s) xs
+  noted-other s [] off = rw off refl
+  noted-other s (b ∷ bs) off = elim (cases_Bool (stands_before order a.task b.task)) [
+    | inl e ↦ rw e (rw off refl)
+    | inr e ↦ rw e (elim (cases_Bool (waits_at s b)) [
+      | inl f ↦ rw f (ap (λ l. b ∷ l) (noted-other s bs off))
+      | inr f ↦ rw f (noted-other s bs off)
+    ])
+  ]
+
+  -- so the queues have those who wait, and the one who is noted
+  pub noted-queued : (rows rows' : List (List Await)) (xs : List Await) → AreSeated order xs → InOrder order xs → AreQueued rows xs → Changes rows rows' a.task.slot (queue_at rows a.task.slot ++ a ∷ []) → AreQueued rows' (noted order a xs)
+  noted-queued rows rows' xs seated ordered queued changes s = elim (cases_Bool (eqb a.task.slot s)) [
+    | inl e ↦ subst (λ k. queue_at rows' k ≡ filter (waits_at k) (noted order a xs)) (eqb-true a.task.slot s e)
+        (changes.changed ∙ ap (λ l. l ++ a ∷ []) (queued a.task.slot) ∙ sym (noted-own xs seated ordered))
+    | inr e ↦ changes.others s e ∙ queued s ∙ sym (noted-other s xs (turned a.task.slot s e))
+  ]
+    where
+      turned : (m n : ℕ) → eqb m n ≡ false → eqb n m ≡ false
+      turned m n h = grind (arith, nat_tests)
+
+  -- its task is present
+  pub noted-seated : (xs : List Await) → AreSeated order xs → AreSeated order (noted order a xs)
+  noted-seated [] seated = (here, tt)
+  noted-seated (b ∷ bs) seated = elim (cases_Bool (stands_before order a.task b.task)) [
+    | inl e ↦ rw e (here, seated)
+    | inr e ↦ rw e (seated.0, noted-seated bs seated.1)
+  ]
+
+-- one more waits
+pub noted-length : (order : List Diner) (a : Await) (xs : List Await) → length (noted order a xs) ≡ length xs + 1
+noted-length order a [] = refl
+noted-length order a (b ∷ bs) = elim (cases_Bool (stands_before order a.task b.task)) [
+  | inl e ↦ rw e (omega arith)
+  | inr e ↦ rw e (let rest = noted-length order a bs in omega (arith, rest))
+]
+
+-- ---- taking back
+
+-- a begin of the task waits at its slot
+of_task : (pass : ℕ) (u : Task) (x : Await) → is_await_of pass u x ≡ true → waits_at u.slot x ≡ true
+of_task pass u x h = (and_parts (eqb u.slot x.task.slot) (eqb u.born x.task.born) ((and_parts (eqb x.pass pass) (same_task u x.task) h).1)).0
+
+module _ (pass : ℕ) (u : Task) where
+  -- whether one waits is told by the task's slot
+  pub noted-at : (xs : List Await) → is_noted pass u (filter (waits_at u.slot) xs) ≡ is_noted pass u xs
+  noted-at [] = refl
+  noted-at (x ∷ xs) = elim (cases_Bool (waits_at u.slot x)) [
+    | inl e ↦
+        let own : filter (waits_at u.slot) (x ∷ xs) ≡ x ∷ filter (waits_at u.slot) xs = rw e refl in
+        ap (is_noted pass u) own ∙ ap (λ rest. if is_await_of pass u x then true else rest) (noted-at xs)
+    | inr e ↦ elim (cases_Bool (is_await_of pass u x)) [
+      | inl f ↦ absurd (let two : true ≡ false = sym (of_task pass u x f) ∙ e in cc)
+      | inr f ↦
+          let other : filter (waits_at u.slot) (x ∷ xs) ≡ filter (waits_at u.slot) xs = rw e refl in
+          let here : is_noted pass u (x ∷ xs) ≡ is_noted pass u xs = rw f refl in
+          ap (is_noted pass u) other ∙ noted-at xs ∙ sym here
+    ]
+  ]
+
+  -- one is taken back there
+  back-own : (xs : List Await) → filter (waits_at u.slot) (taken_back pass u xs) ≡ taken_back pass u (filter (waits_at u.slot) xs)
+  back-own [] = refl
+  back-own (x ∷ xs) = elim (cases_Bool (is_await_of pass u x)) [
+    | inl f ↦ rw (f, of_task pass u x f) (rw f refl)
+    | inr f ↦ rw f (elim (cases_Bool (waits_at u.slot x)) [
+      | inl e ↦ rw e (rw f (ap (λ l. x ∷ l) (back-own xs)))
+      | inr e ↦ rw e (back-own xs)
+    ])
+  ]
+
+  -- and none elsewhere
+  back-other : (s : ℕ) (xs : List Await) → eqb u.slot s ≡ false → filter (waits_at s) (taken_back pass u xs) ≡ filter (waits_at s) xs
+  back-other s [] off = refl
+  back-other s (x ∷ xs) off = elim (cases_Bool (is_await_of pass u x)) [
+    | inl f ↦ rw (f, elsewhere u.slot x.task.slot s (of_task pass u x f) off) refl
+    | inr f ↦ rw f (elim (cases_Bool (waits_at s x)) [
+      | inl e ↦ rw e (ap (λ l. x ∷ l) (back-other s xs off))
+      | inr e ↦ rw e (back-other s xs off)
+    ])
+  ]
+    where
+      elsewhere : (m n k : ℕ) → eqb m n ≡ true → eqb m k ≡ false → eqb k n ≡ false
+      elsewhere m n k h j = grind (arith, nat_tests)
+
+  -- so the queues have the others
+  pub back-queued : (rows rows' : List (List Await)) (xs : List Await) → AreQueued rows xs → Changes rows rows' u.slot (taken_back pass u (queue_at rows u.slot)) → AreQueued rows' (taken_back pass u xs)
+  back-queued rows rows' xs queued changes s = elim (cases_Bool (eqb u.slot s)) [
+    | inl e ↦ subst (λ k. queue_at rows' k ≡ filter (waits_at k) (taken_back pass u xs)) (eqb-true u.slot s e)
+        (changes.changed ∙ ap (taken_back pass u) (queued u.slot) ∙ sym (back-own xs))
+    | inr e ↦ changes.others s e ∙ queued s ∙ sym (back-other s xs e)
+  ]
+
+  -- their tasks are present
+  pub back-seated : (order : List Diner) (xs : List Await) → AreSeated order xs → AreSeated order (taken_back pass u xs)
+  back-seated order [] seated = tt
+  back-seated order (x ∷ xs) seated = elim (cases_Bool (is_await_of pass u x)) [
+    | inl f ↦ rw f seated.1
+    | inr f ↦ rw f (seated.0, back-seated order xs seated.1)
+  ]
+
+  -- one fewer waits where there is one
+  pub back-length : (xs : List Await) → is_noted pass u xs ≡ true → length (taken_back pass u xs) + 1 ≡ length xs
+  back-length [] h = absurd (let two : false ≡ true = h in cc)
+  back-length (x ∷ xs) h = elim (cases_Bool (is_await_of pass u x)) [
+    | inl f ↦ rw f (omega arith)
+    | inr f ↦ let rest = back-length xs (rw f at h) in rw f (omega (arith, rest))
+  ]
+
+  -- and as many where there is none
+  pub back-none : (xs : List Await) → is_noted pass u xs ≡ false → taken_back pass u xs ≡ xs
+  back-none [] h = refl
+  back-none (x ∷ xs) h = elim (cases_Bool (is_await_of pass u x)) [
+    | inl f ↦ absurd (let two : true ≡ false = rw f at h in cc)
+    | inr f ↦ rw f (ap (λ l. x ∷ l) (back-none xs (rw f at h)))
+  ]

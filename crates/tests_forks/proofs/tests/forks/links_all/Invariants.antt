@@ -1,6 +1,0 @@
-use Rattle.std.proofs.Common.{◌≡◌}
-use Rattle.tests_forks.proofs.tests.forks.links_all.Given as goal
-
--- the book keeps its slots
-abbrev pub invariant-loop-link : goal.invariant-loop-link
-invariant-loop-link l = l.book.slots ≡ l.slots
