@@ -1,8 +1,5 @@
 pub mod Words
 pub mod Answering
-pub mod Hearing
-pub mod Opening
-pub mod Served
 pub mod Legal
 pub mod Repeating
 pub mod Once

@@ -47,3 +47,10 @@ reading_lines s s' (Ok (Some (Ask question))) before after h = partly s _ s' [] 
 reading_lines s s' (Ok (Some (Order pass deed))) before after h = deed_lines s s' pass deed before after h
 reading_lines s s' (Ok (Some (Numbered pass number deed))) before after h = coming_lines (coming_of s.receipts pass number) s s' pass deed before after h
 reading_lines s s' (Err found) before after h = partly s _ s' [] before after refl h
+
+-- so what stood before still stands
+pub reading_begins : (s s' : Broker) (reading : Result (Option Request) LineFault) (before after : List ℕ) → StopsAtReading s s' reading before after → IsPrefix before after
+reading_begins s s' reading before after h =
+    let said = reading_lines s s' reading before after h in
+    let made : List ℕ = text_of_lines (map entry_text said.made) in
+    (made ++ said.lines.0, sym (append_assoc before made said.lines.0) ∙ said.lines.1)

@@ -19,10 +19,8 @@ pub use Rattle.dine_serve.specs.declared.request_fault.LineFault.TheVariants.{Wo
 pub use Rattle.dine_streams.specs.Ending.{end_of}
 pub use Rattle.dine_streams.specs.Handed.{handed}
 pub use Rattle.dine_streams.specs.Lines.{begun_line, ended_lines, seen_lines}
-pub use Rattle.dine_streams.specs.Marks.{IsMarked, WritesOnly}
-pub use Rattle.dine_streams.specs.Written.{AppendsLinesOf, AppendsPartOf}
+pub use Rattle.dine_streams.specs.Machines.{HasLines, Rules, Takes, left_by, printed_for, printed_from, standing_after}
 pub use Rattle.dine_streams.specs.declared.ended.CliFault.{CliFault}
-pub use Rattle.dine_streams.specs.declared.ended.CliFault.TheVariants.{Memory, Read, Write}
 pub use Rattle.dine_table.specs.Calls.{has_to_wait, reply_of, table_after_call}
 pub use Rattle.dine_table.specs.History.{IsLegal, is_begin_of, table_from}
 pub use Rattle.dine_table.specs.Sound.{IsSound}

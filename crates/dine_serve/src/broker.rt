@@ -25,7 +25,7 @@ use crate::usual::usual_at;
 use crate::waiters::Waiters;
 use dine_arbiter::Arbiter;
 use dine_lines::{push_neighbours, push_next, push_state};
-use dine_streams::Line;
+use dine_streams::{Line, Machine};
 use dine_words::{Call, Entry, Limits, MAX_ENTRY_LINE, Reply, Task};
 use std::alloc::{AllocError, Global};
 use std::marker::Model;
@@ -114,24 +114,20 @@ impl Broker {
         self.has_fault
     }
 
-    /// Whether no more lines are taken: no more lines, or no more joins and finishes, can be counted in 64 bits.
+    // Whether no more lines are taken: no more lines, or no more joins and finishes, can be counted in 64 bits.
     #[inline(always)]
-    pub(crate) fn is_worn_out(&self) -> bool
+    fn is_worn_out(&self) -> bool
         ensures { result ≡ has_no_room self.now }
     {
         u64::MAX <= self.lines || u64::MAX - 1 <= self.arbiter.clock()
     }
 
-    /// Answers the first line of a text that has whole lines alone, and gives the text after it. A request of a usual form
-    /// is read from the front of the text; every other line is cut off first, and read by its words.
-    ///
-    /// An error is want of memory, as in `take_line`.
+    // Answers the first line of a text that has whole lines alone, and gives the text after it. A request of a usual form is
+    // read from the front of the text; every other line is cut off first, and read by its words.
+    //
+    // An error is want of memory, as in `take_line`.
     #[inline(always)]
-    pub(crate) fn take_front<'a>(
-        &mut self,
-        text: &'a [u8],
-        out: &mut Vec<u8>,
-    ) -> Result<&'a [u8], AllocError>
+    fn take_front<'a>(&mut self, text: &'a [u8], out: &mut Vec<u8>) -> Result<&'a [u8], AllocError>
         requires room { HasRoom self.old }
         requires some { 0 < length text.now }
         requires whole { begun_line [] text.now ≡ [] }
@@ -150,13 +146,13 @@ impl Broker {
         Ok(rest)
     }
 
-    /// Answers a line: what it asks for is done, and the lines that answer it are appended to `out`.
-    ///
-    /// An error is want of memory. The line is counted then, and a part of its answer may have been appended, behind what
-    /// stood there before. If there is no memory for the lines of a call and of the begins after it, nothing is done and
-    /// nothing is appended. A begin that was to be taken back is.
+    // Answers a line: what it asks for is done, and the lines that answer it are appended to `out`.
+    //
+    // An error is want of memory. The line is counted then, and a part of its answer may have been appended, behind what
+    // stood there before. If there is no memory for the lines of a call and of the begins after it, nothing is done and
+    // nothing is appended. A begin that was to be taken back is.
     #[inline(never)]
-    pub(crate) fn take_line(&mut self, line: Line, out: &mut Vec<u8>) -> Result<(), AllocError>
+    fn take_line(&mut self, line: Line, out: &mut Vec<u8>) -> Result<(), AllocError>
         requires { HasRoom self.old }
         ensures after { OnOk result
             (self.new ≡ after_reading (counted self.old)
@@ -174,11 +170,8 @@ impl Broker {
         }
     }
 
-    /// Answers a last line that has no line feed: it isn't carried out.
-    ///
-    /// An error is want of memory. The line and its fault are counted then, and a part of its answer may have been appended,
-    /// behind what stood there before.
-    pub(crate) fn take_torn(&mut self, out: &mut Vec<u8>) -> Result<(), AllocError>
+    // Answers a last line that has no line feed: it may be torn, so it isn't carried out.
+    fn take_torn(&mut self, out: &mut Vec<u8>) -> Result<(), AllocError>
         requires { HasRoom self.old }
         ensures after { self.new ≡ after_reading (counted self.old) (Err LineFault.Torn) }
         ensures said { OnOk result (out.new.items ≡ out.old.items
@@ -422,5 +415,33 @@ impl Broker {
     {
         self.has_fault = true;
         push_fault_line(out, self.lines, fault)
+    }
+}
+
+impl Machine for Broker {
+    ghost use Rattle.dine_serve.specs.Serving.{serves};
+
+    ghost rules = { serves };
+
+    fn open(&self, out: &mut Vec<u8>) -> Result<(), AllocError> {
+        self.arbiter.limits().write_header_line_to(out)
+    }
+
+    #[inline(always)]
+    fn take<'a>(&mut self, text: &'a [u8], out: &mut Vec<u8>) -> Result<&'a [u8], AllocError> {
+        if self.is_worn_out() {
+            return Err(AllocError);
+        }
+        self.take_front(text, out)
+    }
+
+    fn take_last(&mut self, begun: &[u8], out: &mut Vec<u8>) -> Result<(), AllocError> {
+        if begun.is_empty() {
+            return Ok(());
+        }
+        if self.is_worn_out() {
+            return Err(AllocError);
+        }
+        self.take_torn(out)
     }
 }
