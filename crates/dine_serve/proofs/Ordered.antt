@@ -1,8 +1,8 @@
 -- Those who wait stand in the order of last meals.
-use Rattle.dine_serve.proofs.Words.{◌≡◌, ℕ, eqb, Bool, true, false, List, [], ◌∷◌, Option, Some, None, is_none, inl, inr, Result, Ok, Err, refl, sym, ap, ◌∙◌, cases_Bool, Call, Diner, State, Thinking, Hungry, Eating, Task, Table, same_task, stands_before, state_in, state_of, changed_by, has_to_wait, newcomer, refusal_of, table_after_call, without, absent_differs, found, free_slot-unused, is_used, same_task-true, stands_before-append, stands_before-with_state, stands_before-without, Await, LineFault, RequestAnswer, Coming, First, Again, Stale, Foreign, Deed, Make, Cancel, Request, Ask, Order, Numbered, coming_of, reading_of, Broker, after_coming, after_deed, after_making, after_reading, answer_done, counted, retries_after, is_full, received, standing_from, AllWait, InOrder, NoneBefore, is_await_of, noted, still_waiting, table_after_begins, table_begun, taken_back, waiting_after}
+use Rattle.dine_serve.proofs.Words.{◌≡◌, ℕ, eqb, true, false, List, [], ◌∷◌, Option, Some, None, is_none, inl, inr, Result, Ok, Err, refl, sym, ap, ◌∙◌, cases_Bool, Call, Diner, State, Thinking, Hungry, Eating, Task, Table, same_task, stands_before, state_in, state_of, changed_by, has_to_wait, newcomer, refusal_of, table_after_call, without, absent_differs, found, free_slot-unused, is_used, same_task-true, stands_before-append, stands_before-with_state, stands_before-without, Await, LineFault, RequestAnswer, Coming, First, Again, Stale, Foreign, Deed, Make, Cancel, Request, Ask, Order, Numbered, coming_of, reading_of, Broker, after_coming, after_deed, after_making, after_reading, answer_done, counted, is_full, received, standing_from, AllWait, InOrder, NoneBefore, is_await_of, noted, still_waiting, table_begun, taken_back}
 use Rattle.dine_words.specs.declared.call.Call.TheVariants as call
 use Rattle.dine_serve.specs.declared.request.Deed.TheVariants.{Await as await}
-use Rattle.dine_serve.proofs.Waiting.{all-left-wait, all-noted-wait, all-others-wait, all-wait-on, is_none-None, not-ended, who_waits-hungry}
+use Rattle.dine_serve.proofs.Waiting.{all-left-wait, all-noted-wait, all-others-wait, is_none-None, who_waits-hungry}
 
 -- ---- the order of last meals is one
 
@@ -200,11 +200,9 @@ IsAtRest s = AllWait s.table s.awaits × InOrder s.table.order s.awaits
 
 -- so it is after a call and the begins that it lets go on
 rests-made : (s : Broker) (c : Call) → IsAtRest s → IsAtRest (after_making s c)
-rests-made s c (all, order) = by (retries_after s c) refl
-  where
-    by : (ends : Bool) → retries_after s c ≡ ends → AllWait (table_after_begins ends (table_after_call s.table c) s.awaits) (waiting_after ends (table_after_call s.table c) s.awaits) × InOrder (table_after_begins ends (table_after_call s.table c) s.awaits).order (waiting_after ends (table_after_call s.table c) s.awaits)
-    by true is = (all-left-wait (table_after_call s.table c) s.awaits, in_order-begun (table_after_call s.table c) s.awaits (in_order-called s.table c s.awaits all order))
-    by false is = (all-wait-on s.table (table_after_call s.table c) s.awaits (not-ended s.table c is) all, in_order-called s.table c s.awaits all order)
+rests-made s c (all, order) =
+    let left = table_after_call s.table c in
+    (all-left-wait left s.awaits, in_order-begun left s.awaits (in_order-called s.table c s.awaits all order))
 
 -- and after a request
 rests-done : (s : Broker) (pass : ℕ) (number : Option ℕ) (deed : Deed) → IsAtRest s → IsAtRest (after_deed s pass number deed)

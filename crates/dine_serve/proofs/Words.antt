@@ -1,5 +1,5 @@
 -- The words of other modules that the proofs of a service name.
-pub use Rattle.dine_serve.specs.Words.{Again, Ask, Await, Call, Cancel, Cancelled, Coming, Deed, Diner, Done, Entry, First, Foreign, IsSound, Joined, Limits, LineFault, Made, Make, Numbered, Order, Receipt, Refused, Reply, Request, RequestAnswer, Stale, Table, Task, Waits, are_in_conflict, begun_line, end_of, ended_lines, entry_text, has_to_wait, header_text, is_passed_over, journal_text, number_at, reply_of, same_task, seen_lines, stands_before, state_in, state_of, table_after_call, task_at, task_text, text_of_lines, word_at, words_of, written_version, Takes}
+pub use Rattle.dine_serve.specs.Words.{Again, Ask, Await, Call, Cancel, Cancelled, Coming, Deed, Diner, Done, Entry, First, Foreign, IsSound, Limits, LineFault, Made, Make, Numbered, Order, Receipt, Request, RequestAnswer, Stale, Table, Task, Waits, are_in_conflict, begun_line, end_of, ended_lines, entry_text, has_to_wait, header_text, is_passed_over, journal_text, number_at, reply_of, same_task, seen_lines, stands_before, state_in, state_of, table_after_call, task_at, task_text, text_of_lines, word_at, words_of, written_version, Takes}
 pub use Rattle.dine_arbiter.proofs.CallerLemmas.{read_on, shorter}
 pub use Rattle.dine_arbiter.specs.Arbitration.{slots_of}
 pub use Rattle.dine_forks.proofs.CallerLemmas.{IsWalk, at-record, rest_of}
@@ -14,9 +14,9 @@ pub use Rattle.dine_serve.specs.Queues.{AllWaitBut, AreHeld, AreQueued, AreSeate
 pub use Rattle.dine_serve.specs.Receipts.{coming_at, coming_of, has_number, no_receipts, settled, settled_by}
 pub use Rattle.dine_serve.specs.Repeats.{is_again, is_carried_out, is_first, is_no_repeat, is_repeat, times_carried_out, without_repeats}
 pub use Rattle.dine_serve.specs.Requests.{deed_of, numbered_by, numbered_request, order_at, pass_at, reading_of, request_by, request_of, spaced_at}
-pub use Rattle.dine_serve.specs.Serving.{Broker, HasRoom, after_begins, after_coming, after_deed, after_making, after_reading, answer_done, counted, entries_by, entries_coming, entries_done, entries_from, entries_made, has_no_room, history_of, is_full, opening, received, retries_after, said_coming, said_done, said_from, said_of_begun, said_to, said_to_input, served_lines, standing_at, standing_from, serves}
+pub use Rattle.dine_serve.specs.Serving.{Broker, HasRoom, after_coming, after_deed, after_making, after_reading, answer_done, counted, entries_by, entries_coming, entries_done, entries_from, entries_made, has_no_room, history_of, is_full, opening, received, said_coming, said_done, said_from, said_of_begun, said_to, said_to_input, served_lines, standing_at, standing_from, serves}
 pub use Rattle.dine_serve.specs.UsualForms.{Asks, AsksDeed, StopsAtFirst, TakesFirst}
-pub use Rattle.dine_serve.specs.Waits.{AllWait, InOrder, NoneBefore, awaits_of, begins_of, begun_after, begun_from, is_accepted, is_await_of, is_noted, noted, receipts_after, receipts_begun, retries_waits, still_waiting, table_after_begins, table_begun, taken_back, waiting_after}
+pub use Rattle.dine_serve.specs.Waits.{AllWait, InOrder, NoneBefore, awaits_of, begins_of, begun_from, is_await_of, is_noted, noted, receipts_begun, still_waiting, table_begun, taken_back}
 pub use Rattle.dine_streams.proofs.CallerLemmas.{IsShort, begun-on, begun-pieces, ended-pieces, short-both, short-decimal, short-more, short-opening, short-task, on_ok, ran-ends, ran-gave_up, ran-well, takes-line}
 pub use Rattle.dine_streams.specs.Lines.{kept_of, seen_of}
 pub use Rattle.dine_table.proofs.CallerLemmas.{absent_differs, conflict_either_way, diner_put_in-task, found, free_slot-unused, is_used, neighbours_exactly, one_in_slot, or_else-None, same_task-refl, same_task-sym, same_task-true, slice_get-set_other, slice_get-set_same, sound_after_call, stands_before-append, stands_before-other_way, stands_before-with_state, stands_before-without, state_in-append_other, state_in-with_state_other, state_in-with_state_same, state_in-without_other}

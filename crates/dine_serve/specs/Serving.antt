@@ -1,13 +1,13 @@
 -- What is said to the lines that are heard, one after the other.
 use Rattle.std.specs.Prelude.{ℕ, nat_le, ◌+◌, ◌-◌, ◌^◌, ◌<◌, Bool, true, false, ◌||◌, if◌then◌else◌, length, List, [], ◌∷◌, ◌++◌, map, slice_set, Option, Some, None, is_some, Result, Ok, Err}
-use Rattle.dine_serve.specs.Words.{Call, Entry, Limits, Table, opening_table, has_to_wait, reply_of, table_after_call, entry_text, header_text, written_version, Rules, left_by, printed_for, printed_from, standing_after, seen_lines, LineFault, Await, Deed, Make, Cancel, Request, Ask, Order, Numbered, RequestAnswer, Made, Cancelled, Waits, Coming, First, Again, Stale, Foreign, Receipt}
+use Rattle.dine_serve.specs.Words.{Call, Entry, Limits, Table, opening_table, has_to_wait, table_after_call, entry_text, header_text, written_version, Rules, left_by, printed_for, printed_from, standing_after, seen_lines, LineFault, Await, Deed, Make, Cancel, Request, Ask, Order, Numbered, RequestAnswer, Made, Cancelled, Waits, Coming, First, Again, Stale, Foreign, Receipt}
 use Rattle.dine_words.specs.declared.call.Call.TheVariants as call
 use Rattle.dine_serve.specs.declared.request_fault.LineFault.TheVariants as fault
 use Rattle.dine_serve.specs.declared.request.Deed.TheVariants.{Await as await}
 use Rattle.dine_serve.specs.Answers.{again_lines, answer_line, cancelled_line, entry_in, fault_line}
 use Rattle.dine_serve.specs.Receipts.{coming_of, no_receipts}
 use Rattle.dine_serve.specs.Requests.{reading_of}
-use Rattle.dine_serve.specs.Waits.{begun_after, is_noted, noted, receipts_after, retries_waits, table_after_begins, taken_back, waiting_after}
+use Rattle.dine_serve.specs.Waits.{begun_from, is_noted, noted, receipts_begun, still_waiting, table_begun, taken_back}
 
 -- where a broker stands: the table that the calls left, the begins that wait, what each pass asked last, whether requests
 -- have numbers, how many lines were heard, and whether one of them had a fault
@@ -59,27 +59,19 @@ counted s = record s { lines = s.lines + 1 }
 abbrev pub is_full : Broker → Bool
 is_full s = nat_le s.table.limits.tasks (length s.awaits)
 
--- the begins that wait are tried again after a call, by the reply that it gets
-abbrev pub retries_after : Broker → Call → Bool
-retries_after s asked = retries_waits asked (reply_of s.table asked)
-
--- the entries of a call of a pass: its own, and those of the begins that wait no longer
+-- the entries of a call of a pass: its own, and those of the begins that wait no longer after it
 abbrev pub entries_made : Broker → ℕ → Call → List Entry
-entries_made s pass asked =
-    entry_in s.table pass asked ∷ begun_after (retries_after s asked) (table_after_call s.table asked) s.awaits
+entries_made s pass asked = entry_in s.table pass asked ∷ begun_from (table_after_call s.table asked) s.awaits
 
--- where the broker stands after the begins that wait no longer, where some may do so
-abbrev pub after_begins : Bool → Broker → Broker
-after_begins ends s =
-    record s {
-      table = table_after_begins ends s.table s.awaits;
-      awaits = waiting_after ends s.table s.awaits;
-      receipts = receipts_after ends s.table s.awaits s.receipts;
-    }
-
--- where the broker stands after it
+-- where the broker stands after it and them
 abbrev pub after_making : Broker → Call → Broker
-after_making s asked = after_begins (retries_after s asked) record s { table = table_after_call s.table asked }
+after_making s asked =
+    let left = table_after_call s.table asked in
+    record s {
+      table = table_begun left s.awaits;
+      awaits = still_waiting left s.awaits;
+      receipts = receipts_begun left s.awaits s.receipts;
+    }
 
 -- the entries of what a pass wants done. A begin that has to wait makes none yet
 abbrev pub entries_done : Broker → ℕ → Deed → List Entry

@@ -10,9 +10,9 @@ ghost use Rattle.dine_serve.specs.Answers.{answer_line, answer_of, entry_in};
 ghost use Rattle.dine_serve.specs.Partly.{IsUndone, StopsAtComing, StopsAtDeed, StopsAtReading};
 ghost use Rattle.dine_serve.specs.Receipts.{coming_of};
 ghost use Rattle.dine_serve.specs.Requests.{reading_of};
-ghost use Rattle.dine_serve.specs.Serving.{IsGoing, after_coming, after_deed, after_making, after_reading, answer_done, counted, entries_made, opening, received, said_coming, said_done, said_to, standing_at, HasRoom, has_no_room, is_full, retries_after};
+ghost use Rattle.dine_serve.specs.Serving.{IsGoing, after_coming, after_deed, after_making, after_reading, answer_done, counted, entries_made, opening, received, said_coming, said_done, said_to, standing_at, HasRoom, has_no_room, is_full};
 ghost use Rattle.dine_serve.specs.UsualForms.{TakesFirst};
-ghost use Rattle.dine_serve.specs.Waits.{begun_after};
+ghost use Rattle.dine_serve.specs.Waits.{begun_from};
 
 use crate::answer_texts::{
     push_again, push_cancelled_line, push_fault_line, push_line_and_room, push_listed,
@@ -311,8 +311,8 @@ impl Broker {
             ≤ vec_capacity out.old }
         ensures after { self.new ≡ after_making self.old call }
         ensures said { out.new.items ≡ out.old.items
-            ++ text_of_lines (map entry_text (begun_after (retries_after self.old call)
-            (table_after_call self.old.table call) self.old.awaits)) }
+            ++ text_of_lines (map entry_text
+            (begun_from (table_after_call self.old.table call) self.old.awaits)) }
     {
         self.arbiter.apply_answered(call, reply);
         if self.waiters.len() == 0 || !call.may_end_waits(reply) {
