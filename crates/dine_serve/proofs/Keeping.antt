@@ -3,10 +3,10 @@ use Rattle.dine_serve.proofs.Words.{◌≡◌, ◌⊎◌, ℕ, suc, ◌+◌, ◌
 use Rattle.dine_words.specs.declared.call.Call.TheVariants as call
 use Rattle.dine_serve.proofs.Gathered.{told}
 use Rattle.dine_serve.proofs.Ordered.{in_order-noted, in_order-taken_back}
-use Rattle.dine_serve.proofs.Queueing.{back-length, back-none, back-queued, back-seated, noted-at, noted-length, noted-queued, noted-seated}
+use Rattle.dine_serve.proofs.Queueing.{back-length, back-none, back-queued, noted-at, noted-length, noted-queued}
 use Rattle.dine_serve.proofs.Retrying.{seated-waits}
 use Rattle.dine_serve.proofs.Staying.{may_end-waits}
-use Rattle.dine_serve.proofs.Waiting.{all-noted-wait, all-others-wait, all-wait-on}
+use Rattle.dine_serve.proofs.Each.{each-back, each-noted, each-on}
 
 -- those who wait stand so, and are kept
 pub record Keeps (t : Table) (w : Waiters) (xs : List Await) : Type 0 where
@@ -45,20 +45,20 @@ module _ (t : Table) (w w' : Waiters) (k : IsKept t w) where
   keeps-noted a waits changes len =
       let here = seated-waits t a.task waits in
       keeps t w' (noted t.order a all) k.sound
-      (noted-seated t.order k.sound.each_slot_once a here all k.held.seated)
+      (each-noted (λ x. is_some (state_in t.order x.task) ≡ true) t.order a all here k.held.seated)
       (in_order-noted t.order a all k.ordered)
       (noted-queued t.order k.sound.each_slot_once a here w.rows w'.rows all k.held.seated k.ordered k.held.queued changes)
-      (all-noted-wait t t.order a all waits k.all_wait)
+      (each-noted (λ x. has_to_wait t x.task ≡ true) t.order a all waits k.all_wait)
       (len ∙ ap (λ n. n + 1) k.counted ∙ sym (noted-length t.order a all))
 
   -- one is taken back, or none
   pub keeps-back : (pass : ℕ) (u : Task) (found : Bool) → found ≡ is_noted pass u (queue_at w.rows u.slot) → Changes w.rows w'.rows u.slot (taken_back pass u (queue_at w.rows u.slot)) → w'.len ≡ (if found then w.len - 1 else w.len) → Keeps t w' (taken_back pass u all)
   keeps-back pass u found told changes len =
       keeps t w' (taken_back pass u all) k.sound
-      (back-seated pass u t.order all k.held.seated)
+      (each-back (λ x. is_some (state_in t.order x.task) ≡ true) pass u all k.held.seated)
       (in_order-taken_back t.order pass u all k.ordered)
       (back-queued pass u w.rows w'.rows all k.held.queued changes)
-      (all-others-wait t pass u all k.all_wait)
+      (each-back (λ x. has_to_wait t x.task ≡ true) pass u all k.all_wait)
       (by found (found-all pass u found told) len)
     where
       found-all : (pass : ℕ) (u : Task) (found : Bool) → found ≡ is_noted pass u (queue_at w.rows u.slot) → is_noted pass u all ≡ found
@@ -88,7 +88,7 @@ called-rests t c w k (inl none) = nobody (in_order t.order w.rows) (sym k.counte
     nobody : (xs : List Await) → length xs ≡ 0 → AllWait (table_after_call t c) xs
     nobody [] h = tt
     nobody (x ∷ xs) h = absurd (omega (arith, h))
-called-rests t c w k (inr none) = all-wait-on t (table_after_call t c) (in_order t.order w.rows) (may_end-waits t c none) k.all_wait
+called-rests t c w k (inr none) = each-on (λ x. has_to_wait t x.task ≡ true) (λ x. has_to_wait (table_after_call t c) x.task ≡ true) (λ x waits. may_end-waits t c none x.task waits) (in_order t.order w.rows) k.all_wait
 
 -- where all were tried, the broker stands as it is to stand
 pub made-all : (s : Broker) (c : Call) (t' : Table) (awaits' : List Await) (receipts' : List (Option Receipt)) → t' ≡ table_begun (table_after_call s.table c) s.awaits → awaits' ≡ still_waiting (table_after_call s.table c) s.awaits → receipts' ≡ receipts_begun (table_after_call s.table c) s.awaits s.receipts → record s { table = t'; awaits = awaits'; receipts = receipts' } ≡ after_making s c

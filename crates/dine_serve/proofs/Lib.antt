@@ -4,6 +4,7 @@ pub mod Legal
 pub mod Repeating
 pub mod Once
 pub mod Again
+pub mod Each
 pub mod Waiting
 pub mod Ordered
 pub mod ComingAndGoing

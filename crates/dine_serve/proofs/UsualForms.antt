@@ -195,7 +195,7 @@ first-shorter (Err error) h = tt
 -- what stood before still stands, where memory was wanting
 pub first-begins : {E : Type 0} {s s' : Broker} {text before after : List ℕ} (r : Result (Bor (List ℕ)) E) → TakesFirst r s s' text before after → OnErr r (IsPrefix before after)
 first-begins (Ok rest) h = tt
-first-begins (Err error) h = reading_begins _ _ _ _ _ h.stops
+first-begins {s = s} {s' = s'} {before = before} {after = after} (Err error) h = reading_begins (counted s) s' (reading_of s.is_numbered h.line) before after h.stops
 
 -- ---- a text of whole lines
 

@@ -1,5 +1,6 @@
 -- Begins that wait until they would be answered otherwise than `not-yet`.
 use Rattle.std.specs.Prelude.{◌≡◌, ℕ, ◌==◌, ◌+◌, Bool, true, false, ◌&&◌, if◌then◌else◌, List, [], ◌∷◌, Option}
+use Rattle.std.specs.List.{AllByRecursion}
 use Rattle.dine_serve.specs.Words.{Entry, Diner, Task, Table, same_task, stands_before, has_to_wait, table_after_call, is_begin_of, Await, Receipt}
 use Rattle.dine_words.specs.declared.call.Call.TheVariants as call
 use Rattle.dine_serve.specs.Answers.{entry_in}
@@ -70,15 +71,13 @@ begins_of pass u (e ∷ es) = (if (e.pass == pass) && is_begin_of u e.call then 
 
 -- each of them has to wait
 abbrev pub AllWait : Table → List Await → Type 0
-AllWait t [] = Unit {0}
-AllWait t (a ∷ others) = (has_to_wait t a.task ≡ true) × AllWait t others
+AllWait t awaits = AllByRecursion (λ a. has_to_wait t a.task ≡ true) awaits
 
 -- ---- in which order they stand
 
 -- none of them stands before the task in the order of last meals
 abbrev pub NoneBefore : List Diner → Task → List Await → Type 0
-NoneBefore order u [] = Unit {0}
-NoneBefore order u (a ∷ others) = (stands_before order a.task u ≡ false) × NoneBefore order u others
+NoneBefore order u awaits = AllByRecursion (λ a. stands_before order a.task u ≡ false) awaits
 
 -- none stands before an earlier one
 abbrev pub InOrder : List Diner → List Await → Type 0

@@ -10,7 +10,7 @@ ghost use Rattle.dine_serve.specs.Answers.{answer_line, answer_of, entry_in};
 ghost use Rattle.dine_serve.specs.Partly.{IsUndone, StopsAtComing, StopsAtDeed, StopsAtReading};
 ghost use Rattle.dine_serve.specs.Receipts.{coming_of};
 ghost use Rattle.dine_serve.specs.Requests.{reading_of};
-ghost use Rattle.dine_serve.specs.Serving.{IsGoing, after_coming, after_deed, after_making, after_reading, answer_done, counted, entries_made, opening, received, said_coming, said_done, said_to, standing_at, HasRoom, has_no_room, is_full};
+ghost use Rattle.dine_serve.specs.Serving.{IsGoing, after_coming, after_deed, after_making, after_reading, answer_done, counted, entries_made, received, said_coming, said_done, said_to, standing_at, HasRoom, has_no_room, is_full};
 ghost use Rattle.dine_serve.specs.UsualForms.{TakesFirst};
 ghost use Rattle.dine_serve.specs.Waits.{begun_from};
 
@@ -26,7 +26,7 @@ use crate::waiters::Waiters;
 use dine_arbiter::Arbiter;
 use dine_lines::{push_neighbours, push_next, push_state};
 use dine_streams::{Line, Machine};
-use dine_words::{Call, Entry, Limits, MAX_ENTRY_LINE, Reply, Task};
+use dine_words::{Call, Entry, MAX_ENTRY_LINE, Reply, Task};
 use std::alloc::{AllocError, Global};
 use std::marker::Model;
 
@@ -69,23 +69,11 @@ impl Model for Broker {
 }
 
 impl Broker {
-    /// A broker that has heard no line. Nobody is present. Where `passes` are given, those below this number may ask, and
-    /// their requests have numbers; there are at most [`MAX_NUMBERED_PASSES`](crate::MAX_NUMBERED_PASSES), and a greater
-    /// number is taken for it. An error is want of memory.
-    pub(crate) fn new(
-        alloc: Global,
-        limits: Limits,
-        passes: Option<u32>,
-    ) -> Result<Broker, AllocError>
-        ensures { IfOk result (λ broker. broker ≡ opening limits passes) }
-    {
-        let arbiter = Arbiter::new(alloc, limits)?;
-        Broker::going_on(alloc, arbiter, passes)
-    }
-
-    /// A broker that goes on with an arbiter, as [`Broker::new`]: it has heard no line, nobody waits, and no pass has
-    /// asked for anything. All memory is taken here, but for begins that wait and for the lines that are answered. An error
-    /// is want of memory.
+    /// A broker that goes on with an arbiter: it has heard no line, and nobody waits. Where `passes` are given, those below
+    /// this number may ask, and their requests have numbers; there are at most
+    /// [`MAX_NUMBERED_PASSES`](crate::MAX_NUMBERED_PASSES), and a greater number is taken for it. None has asked for anything.
+    ///
+    /// All memory is taken here, but for begins that wait and for the lines that are answered. An error is want of memory.
     pub fn going_on(
         alloc: Global,
         arbiter: Arbiter,

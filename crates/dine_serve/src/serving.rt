@@ -8,6 +8,7 @@ ghost use Rattle.dine_serve.specs.Serving.{has_fault_of, opening};
 ghost use Rattle.dine_serve.specs.Streams.{Serves};
 
 use crate::broker::Broker;
+use dine_arbiter::Arbiter;
 use dine_streams::{CliFault, Ended, end_of, go_on, run};
 use dine_words::{Limits, Sink, Source};
 use std::alloc::Global;
@@ -42,7 +43,8 @@ pub fn run_serve<R: Source, W: Sink>(
         (W.contents writer.old) (W.contents writer.new)
         (R.mark reader.old) (R.mark reader.new) (W.mark writer.old) (W.mark writer.new) }
 {
-    let mut broker = Broker::new(alloc, limits, passes)?;
+    let arbiter = Arbiter::new(alloc, limits)?;
+    let mut broker = Broker::going_on(alloc, arbiter, passes)?;
     run(alloc, &mut broker, reader, writer)?;
     Ok(end_of(broker.has_fault()))
 }

@@ -10,10 +10,10 @@ returns-in_err-run g c =
     (λ failed. search rules)
     (λ failed. search rules)
     (λ failed. search rules)
-    (rw c.in_ok-broker.ensures at c.run.ensures)
+    (rw (c.in_ok-broker.ensures, c.in_ok-arbiter.ensures.table) at c.run.ensures)
 
 pub returns : goal.returns
 returns g c =
     ran-well _ c.end_of.result _ _ _ _ _ _ _ _ _ _ _ _ _ _
     (λ bytes left. c.end_of.ensures ∙ ap end_of (c.has_fault.ensures ∙ ap (λ (s : Broker). s.has_fault) left))
-    (rw c.in_ok-broker.ensures at c.in_ok-run.ensures)
+    (rw (c.in_ok-broker.ensures, c.in_ok-arbiter.ensures.table) at c.in_ok-run.ensures)
