@@ -1,6 +1,5 @@
 -- What a broker keeps of those who wait: at the opening, where one is noted or taken back, and after a call.
-use Rattle.dine_serve.proofs.Words.{◌≡◌, ◌⊎◌, ℕ, suc, ◌+◌, ◌-◌, Bool, true, false, if◌then◌else◌, List, [], ◌∷◌, ◌++◌, length, Option, inl, inr, refl, sym, ap, ◌∙◌, subst, arith, Call, Task, may_end_waits, Table, has_to_wait, reply_of, table_after_call, IsSound, Await, Receipt, AreQueued, AreSeated, Changes, IsKept, SameQueues, Waiters, in_order, queue_at, Broker, after_making, AllWait, InOrder, is_noted, noted, receipts_begun, still_waiting, table_begun, taken_back}
-use Rattle.dine_words.specs.declared.call.Call.TheVariants as call
+use Rattle.dine_serve.proofs.Words.{◌≡◌, ◌⊎◌, ℕ, suc, ◌+◌, ◌-◌, Bool, true, false, if◌then◌else◌, List, [], ◌∷◌, ◌++◌, length, Option, is_some, inl, inr, refl, sym, ap, ◌∙◌, subst, arith, Call, Task, may_end_waits, Table, has_to_wait, reply_of, table_after_call, IsSound, Await, Receipt, AreQueued, AreSeated, Changes, IsKept, SameQueues, Waiters, in_order, queue_at, state_in, Broker, after_making, AllWait, InOrder, is_noted, noted, receipts_begun, still_waiting, table_begun, taken_back}
 use Rattle.dine_serve.proofs.Gathered.{told}
 use Rattle.dine_serve.proofs.Ordered.{in_order-noted, in_order-taken_back}
 use Rattle.dine_serve.proofs.Queueing.{back-length, back-none, back-queued, noted-at, noted-length, noted-queued}

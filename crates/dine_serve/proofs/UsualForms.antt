@@ -183,19 +183,19 @@ taken_in_part {s = s} {s' = s'} {text = text} {before = before} {after = after} 
 -- ---- what is known of a text whose first line was taken, or not
 
 -- a line was
-pub first-taken : {E : Type 0} {s s' : Broker} {text before after : List ℕ} (r : Result (Bor (List ℕ)) E) → TakesFirst r s s' text before after → IfOk r (λ rest. Takes serves s s' text rest.now before after)
-first-taken (Ok rest) h = h.0
-first-taken (Err error) h = tt
+pub first-taken : {E : Type 0} (s s' : Broker) (text before after : List ℕ) (r : Result (Bor (List ℕ)) E) → TakesFirst r s s' text before after → IfOk r (λ rest. Takes serves s s' text rest.now before after)
+first-taken s s' text before after (Ok rest) h = h.0
+first-taken s s' text before after (Err error) h = tt
 
 -- less is left then
-pub first-shorter : {E : Type 0} {s s' : Broker} {text before after : List ℕ} (r : Result (Bor (List ℕ)) E) → TakesFirst r s s' text before after → IfOk r (λ rest. length rest.now < length text)
-first-shorter (Ok rest) h = h.1
-first-shorter (Err error) h = tt
+pub first-shorter : {E : Type 0} (s s' : Broker) (text before after : List ℕ) (r : Result (Bor (List ℕ)) E) → TakesFirst r s s' text before after → IfOk r (λ rest. length rest.now < length text)
+first-shorter s s' text before after (Ok rest) h = h.1
+first-shorter s s' text before after (Err error) h = tt
 
 -- what stood before still stands, where memory was wanting
-pub first-begins : {E : Type 0} {s s' : Broker} {text before after : List ℕ} (r : Result (Bor (List ℕ)) E) → TakesFirst r s s' text before after → OnErr r (IsPrefix before after)
-first-begins (Ok rest) h = tt
-first-begins {s = s} {s' = s'} {before = before} {after = after} (Err error) h = reading_begins (counted s) s' (reading_of s.is_numbered h.line) before after h.stops
+pub first-begins : {E : Type 0} (s s' : Broker) (text before after : List ℕ) (r : Result (Bor (List ℕ)) E) → TakesFirst r s s' text before after → OnErr r (IsPrefix before after)
+first-begins s s' text before after (Ok rest) h = tt
+first-begins s s' text before after (Err error) h = reading_begins (counted s) s' (reading_of s.is_numbered h.line) before after h.stops
 
 -- ---- a text of whole lines
 

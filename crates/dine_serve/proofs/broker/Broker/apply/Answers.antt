@@ -1,4 +1,4 @@
-use Rattle.dine_serve.proofs.Words.{◌≡◌, ◌≤◌, ◌+◌, ◌*◌, ◌⊎◌, true, false, ◌++◌, length, map, inl, inr, sym, ap, subst, ◌∙◌, entry_text, text_of_lines, vec_capacity, vec_len, may_end_waits, Table, reply_of, table_after_call, IsRetried, IsKept, in_order, after_making, AllWait, begun_from, receipts_begun, still_waiting, table_begun}
+use Rattle.dine_serve.proofs.Words.{◌≡◌, ◌≤◌, ◌+◌, ◌*◌, ◌⊎◌, false, ◌++◌, length, map, inl, inr, sym, ap, subst, ◌∙◌, entry_text, text_of_lines, vec_capacity, vec_len, may_end_waits, Table, reply_of, table_after_call, IsRetried, IsKept, in_order, after_making, AllWait, begun_from, receipts_begun, still_waiting, table_begun}
 use Rattle.dine_serve.specs.Serving.{Broker as Standing}
 use Rattle.dine_serve.proofs.Keeping.{called-rests, made-all}
 use Rattle.dine_serve.proofs.Retrying.{called-order, kept-called, retried-called}

@@ -1,4 +1,4 @@
-use Rattle.dine_serve.proofs.Words.{ap, subst, Asks}
+use Rattle.dine_serve.proofs.Words.{ap, subst, handed, serves, takes-line, Asks}
 use Rattle.dine_serve.specs.Serving.{Broker as Standing}
 use Rattle.dine_serve.proofs.UsualForms.{no_byte, taken_in_part, usual-answers, usual-stops}
 use Rattle.dine_serve.proofs.broker.Broker.take_front.Goals as goal
@@ -18,3 +18,9 @@ returns-in_err-take_request c = taken_in_part c.from_residual-in_err-take_reques
 -- a text of whole lines has one while it has a byte
 pub returns-in_default-cut : goal.returns-in_default-cut
 returns-in_default-cut c = absurd (no_byte c.args.text.now c.in_default-cut.ensures.none c.requires.whole c.requires.some)
+
+-- any other line
+pub returns-in_default : goal.returns-in_default
+returns-in_default c =
+    let cut = c.in-Some-cut.ensures in
+    (takes-line serves _ _ _ _ _ _ (handed c.in-Some-cut.line) record { front = cut.front.0; cut = cut.front.1; seen = cut.some; begun = cut.begun } c.in_ok-take_line.ensures.after c.in_ok-take_line.ensures.said, cut.shorter)

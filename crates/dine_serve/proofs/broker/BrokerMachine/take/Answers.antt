@@ -11,10 +11,10 @@ pub returns-then-is_worn_out-clause-part : goal.returns-then-is_worn_out-clause-
 returns-then-is_worn_out-clause-part c = ([], append-nil c.args.out.now.items)
 
 pub returns-clause-taken : goal.returns-clause-taken
-returns-clause-taken c = first-taken c.take_front.result c.take_front.ensures
+returns-clause-taken c = first-taken _ _ _ _ _ c.take_front.result c.take_front.ensures
 
 pub returns-clause-shorter : goal.returns-clause-shorter
-returns-clause-shorter c = first-shorter c.take_front.result c.take_front.ensures
+returns-clause-shorter c = first-shorter _ _ _ _ _ c.take_front.result c.take_front.ensures
 
 pub returns-clause-part : goal.returns-clause-part
-returns-clause-part c = first-begins c.take_front.result c.take_front.ensures
+returns-clause-part c = first-begins _ _ _ _ _ c.take_front.result c.take_front.ensures
