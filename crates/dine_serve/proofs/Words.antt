@@ -15,7 +15,7 @@ pub use Rattle.dine_serve.specs.Receipts.{coming_at, coming_of, has_number, no_r
 pub use Rattle.dine_serve.specs.Repeats.{is_again, is_carried_out, is_first, is_no_repeat, is_repeat, times_carried_out, without_repeats}
 pub use Rattle.dine_serve.specs.Requests.{deed_of, numbered_by, numbered_request, order_at, pass_at, reading_of, request_by, request_of, spaced_at}
 pub use Rattle.dine_serve.specs.Serving.{Broker, HasRoom, after_coming, after_deed, after_making, after_reading, answer_done, counted, entries_by, entries_coming, entries_done, entries_from, entries_made, has_no_room, history_of, is_full, opening, received, said_coming, said_done, said_from, said_of_begun, said_to, said_to_input, served_lines, standing_at, standing_from, serves}
-pub use Rattle.dine_serve.specs.UsualForms.{Asks, AsksDeed, StopsAtFirst, TakesFirst}
+pub use Rattle.dine_serve.specs.UsualForms.{Asks, AsksDeed, StopsAtFirst}
 pub use Rattle.dine_serve.specs.Waits.{AllWait, InOrder, NoneBefore, awaits_of, begins_of, begun_from, is_await_of, is_noted, noted, receipts_begun, still_waiting, table_begun, taken_back}
 pub use Rattle.dine_streams.proofs.CallerLemmas.{IsShort, begun-on, begun-pieces, ended-pieces, short-both, short-decimal, short-more, short-opening, short-task, on_ok, ran-ends, ran-gave_up, ran-well, takes-line}
 pub use Rattle.dine_streams.specs.Handed.{handed}
@@ -36,7 +36,7 @@ pub use Rattle.dine_words.specs.declared.call.Refusal.{Refusal}
 pub use Rattle.dine_words.specs.declared.call_word.CallOnOne.{CallOnOne}
 pub use Rattle.dine_words.specs.declared.task.State.{State}
 pub use Rattle.dine_words.specs.declared.task.State.TheVariants.{Eating, Hungry, Thinking}
-pub use Rattle.std.proofs.Common.{◌/◌, ◌%◌, Bool, Err, IfOk, IfSome, IsErr, IsSome, List, None, Ok, OnErr, OnOk, OnSome, Option, Result, Some, [], ap, append-nil, append_assoc, arith, codes, decimal, drop, eq-eqb, eqb, false, get_or, if◌then◌else◌, inl, inr, is_none, is_ok, is_some, length, length-append, length-drop, lit≤, map, nat_le, nat_lt, not, refl, rules, slice_get, slice_set, subst, suc, sym, take, true, unwrap_or, vec_capacity, vec_len, zero, ℕ, ◌&&◌, ◌*◌, ◌++◌, ◌+◌, ◌-◌, ◌<◌, ◌==◌, ◌^◌, ◌||◌, ◌∙◌, ◌∷◌, ◌≡◌, ◌≤◌, ◌⊎◌}
+pub use Rattle.std.proofs.Common.{◌/◌, ◌%◌, Bool, Err, IfSome, IsSome, List, None, Ok, OnErr, OnOk, OnSome, Option, Result, Some, [], ap, append-nil, append_assoc, arith, codes, decimal, drop, eq-eqb, eqb, false, get_or, if◌then◌else◌, inl, inr, is_none, is_ok, is_some, length, length-append, length-drop, lit≤, map, nat_le, nat_lt, not, refl, rules, slice_get, slice_set, subst, suc, sym, take, true, unwrap_or, vec_capacity, vec_len, zero, ℕ, ◌&&◌, ◌*◌, ◌++◌, ◌+◌, ◌-◌, ◌<◌, ◌==◌, ◌^◌, ◌||◌, ◌∙◌, ◌∷◌, ◌≡◌, ◌≤◌, ◌⊎◌}
 pub use Rattle.std.proofs.lemmas.Bool.{and_parts, cases_Bool, eqb-true, or_cases, or_left, or_parts, or_right}
 pub use Rattle.std.proofs.lemmas.Bool.Decides.{Decides-eqb, nat_tests}
 pub use Rattle.std.proofs.lemmas.Grind.{flat_map-append}
@@ -45,11 +45,9 @@ pub use Rattle.std.proofs.lemmas.List.Elements.{filter-append, filter_map-append
 pub use Rattle.std.proofs.lemmas.List.Folds.{list_any-append}
 pub use Rattle.std.proofs.lemmas.Map.Views.{Contains-from_any}
 pub use Rattle.std.proofs.lemmas.Option.{slice_get_past}
-pub use Rattle.std.proofs.lemmas.Result.{MatchResult-from_err}
 pub use Rattle.std.proofs.lemmas.Slice.Eq.{strip_prefix_is}
 pub use Rattle.std.specs.Char.{is_ascii_digit}
 pub use Rattle.std.specs.List.{AllByRecursion, cons_option, filter, list_any}
-pub use Rattle.std.specs.Borrow.{Bor}
 pub use Rattle.std.specs.declared.alloc.Global.{Global}
 pub use Rattle.std.specs.declared.collections.VecDeque.{VecDeque}
 pub use mathlib.Core.List.{IsPrefix}

@@ -1,11 +1,9 @@
--- Requests of the forms that nearly all have, at the front of a text, and what it is to answer the first line of one, or to
--- stop at it.
-use Rattle.std.specs.Prelude.{◌≡◌, ℕ, ◌<◌, ◌≤◌, Bool, List, [], ◌∷◌, ◌++◌, length, MatchResult, Option, Some, Result, Ok}
-use Rattle.std.specs.Borrow.{Bor}
-use Rattle.dine_serve.specs.Words.{HasLines, Takes, ended_lines, Deed, Request}
+-- Requests of the forms that nearly all have, at the front of a text, and what it is to stop at the first line of one.
+use Rattle.std.specs.Prelude.{◌≡◌, ℕ, ◌<◌, ◌≤◌, Bool, List, [], ◌∷◌, ◌++◌, length, Option, Some, Ok}
+use Rattle.dine_serve.specs.Words.{HasLines, ended_lines, Deed, Request}
 use Rattle.dine_serve.specs.Partly.{StopsAtReading}
 use Rattle.dine_serve.specs.Requests.{deed_of, reading_of}
-use Rattle.dine_serve.specs.Serving.{Broker, counted, serves}
+use Rattle.dine_serve.specs.Serving.{Broker, counted}
 
 -- the first line of a text asks for this, and the rest comes after it
 pub record Asks (numbered : Bool) (request : Request) (text rest : List ℕ) : Type 0 where
@@ -28,9 +26,3 @@ pub record StopsAtFirst (s s' : Broker) (text before after : List ℕ) : Type 0 
   pub rest : List ℕ
   pub first : HasLines text (line ∷ []) rest
   pub stops : StopsAtReading (counted s) s' (reading_of s.is_numbered line) before after
-
--- the first line of a text was answered, and the rest is handed out, or memory was wanting on the way
-abbrev pub TakesFirst : {E : Type 0} → Result (Bor (List ℕ)) E → Broker → Broker → List ℕ → List ℕ → List ℕ → Type 0
-TakesFirst result s s' text before after =
-    MatchResult result
-    (λ rest. Takes serves s s' text rest.now before after × (length rest.now < length text)) (λ error. StopsAtFirst s s' text before after)

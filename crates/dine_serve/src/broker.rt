@@ -4,14 +4,15 @@ ghost use Rattle.std.specs.Prelude.{◌≡◌, ◌<◌, ◌≤◌, ◌+◌, ◌*
 ghost use mathlib.Core.List.{IsPrefix};
 ghost use Rattle.dine_streams.specs.Handed.{handed};
 ghost use Rattle.dine_streams.specs.Lines.{begun_line};
+ghost use Rattle.dine_streams.specs.Machines.{Takes};
 ghost use Rattle.dine_table.specs.Calls.{reply_of, table_after_call};
 ghost use Rattle.dine_words.specs.Texts.{entry_text, text_of_lines};
 ghost use Rattle.dine_serve.specs.Answers.{answer_line, answer_of, entry_in};
 ghost use Rattle.dine_serve.specs.Partly.{IsUndone, StopsAtComing, StopsAtDeed, StopsAtReading};
 ghost use Rattle.dine_serve.specs.Receipts.{coming_of};
 ghost use Rattle.dine_serve.specs.Requests.{reading_of};
-ghost use Rattle.dine_serve.specs.Serving.{IsGoing, after_coming, after_deed, after_making, after_reading, answer_done, counted, entries_made, received, said_coming, said_done, said_to, standing_at, HasRoom, has_no_room, is_full};
-ghost use Rattle.dine_serve.specs.UsualForms.{TakesFirst};
+ghost use Rattle.dine_serve.specs.Serving.{IsGoing, after_coming, after_deed, after_making, after_reading, answer_done, counted, entries_made, received, said_coming, said_done, said_to, serves, standing_at, HasRoom, has_no_room, is_full};
+ghost use Rattle.dine_serve.specs.UsualForms.{StopsAtFirst};
 ghost use Rattle.dine_serve.specs.Waits.{begun_from};
 
 use crate::answer_texts::{
@@ -112,14 +113,16 @@ impl Broker {
 
     // Answers the first line of a text that has whole lines alone, and gives the text after it. A request of a usual form is
     // read from the front of the text; every other line is cut off first, and read by its words.
-    //
-    // An error is want of memory, as in `take_line`.
     #[inline(always)]
     fn take_front<'a>(&mut self, text: &'a [u8], out: &mut Vec<u8>) -> Result<&'a [u8], AllocError>
         requires room { HasRoom self.old }
         requires some { 0 < length text.now }
         requires whole { begun_line [] text.now ≡ [] }
-        ensures { TakesFirst result self.old self.new text.now out.old.items out.new.items }
+        ensures taken { IfOk result (λ rest. Takes serves self.old self.new
+            text.now rest.now out.old.items out.new.items) }
+        ensures shorter { IfOk result (λ rest. length rest.now < length text.now) }
+        ensures stops { OnErr result (StopsAtFirst self.old self.new
+            text.now out.old.items out.new.items) }
     {
         let Some((request, rest)) = usual_at(text, self.is_numbered) else {
             let Some((line, rest)) = Line::cut(text) else {
@@ -407,8 +410,6 @@ impl Broker {
 }
 
 impl Machine for Broker {
-    ghost use Rattle.dine_serve.specs.Serving.{serves};
-
     ghost rules = { serves };
 
     fn open(&self, out: &mut Vec<u8>) -> Result<(), AllocError> {

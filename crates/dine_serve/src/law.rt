@@ -2,7 +2,17 @@
 
 ghost use Rattle.std.specs.Prelude.{◌≡◌, ◌≤◌, ℕ, ◌+◌, ◌++◌, List, Option, Result, Some, codes, length, map, take};
 ghost use Rattle.std.specs.List.{filter};
-ghost use Rattle.dine_serve.specs.Words.{Await, Deed, IsLegal, Limits, LineFault, Request, RequestAnswer, Table, Task, journal_text, text_of_lines};
+ghost use Rattle.dine_journal.specs.JournalText.{journal_text};
+ghost use Rattle.dine_serve.specs.declared.awaits.Await.{Await};
+ghost use Rattle.dine_serve.specs.declared.receipts.RequestAnswer.{RequestAnswer};
+ghost use Rattle.dine_serve.specs.declared.request.Deed.{Deed};
+ghost use Rattle.dine_serve.specs.declared.request.Request.{Request};
+ghost use Rattle.dine_serve.specs.declared.request_fault.LineFault.{LineFault};
+ghost use Rattle.dine_table.specs.History.{IsLegal};
+ghost use Rattle.dine_table.specs.Table.{Table};
+ghost use Rattle.dine_words.specs.Texts.{text_of_lines};
+ghost use Rattle.dine_words.specs.declared.limits.Limits.{Limits};
+ghost use Rattle.dine_words.specs.declared.task.Task.{Task};
 ghost use Rattle.dine_serve.specs.Waits.{AllWait, InOrder, awaits_of, begins_of, begun_from, still_waiting};
 ghost use Rattle.dine_serve.specs.Journals.{is_of_journal};
 ghost use Rattle.dine_serve.specs.declared.receipts.Coming.TheVariants as Coming;

@@ -59,10 +59,7 @@ pub fn read_line(line: Line, is_numbered: bool) -> Result<Option<Request>, LineF
     if is_passed_over(bytes) {
         return Ok(None);
     }
-    match read_request(bytes, is_numbered) {
-        Some(request) => Ok(Some(request)),
-        None => Err(LineFault::Words),
-    }
+    Ok(Some(read_request(bytes, is_numbered).ok_or(LineFault::Words)?))
 }
 
 // The request that a line is.

@@ -49,9 +49,7 @@ pub fn run_serve<R: Source, W: Sink>(
     Ok(end_of(broker.has_fault()))
 }
 
-/// Answers each line that comes, from where the broker stands, until no more comes.
-///
-/// It gives up as [`run_serve`] does.
+/// Answers each line that comes, from where the broker stands, until no more comes. It gives up as [`run_serve`] does.
 pub fn answer_all<R: Source, W: Sink>(
     alloc: Global,
     broker: &mut Broker,

@@ -1,6 +1,6 @@
 use Rattle.dine_serve.proofs.Words.{[], ◌∙◌, sym, append-nil}
 use Rattle.dine_serve.proofs.Answering.{has_room}
-use Rattle.dine_serve.proofs.UsualForms.{first-begins, first-shorter, first-taken}
+use Rattle.dine_serve.proofs.UsualForms.{stops-begins}
 use Rattle.dine_serve.proofs.broker.BrokerMachine.take.Goals as goal
 
 pub take_front-requires-clause-room : goal.take_front-requires-clause-room
@@ -10,11 +10,5 @@ take_front-requires-clause-room c = has_room c.args.self.now (sym c.is_worn_out.
 pub returns-then-is_worn_out-clause-part : goal.returns-then-is_worn_out-clause-part
 returns-then-is_worn_out-clause-part c = ([], append-nil c.args.out.now.items)
 
-pub returns-clause-taken : goal.returns-clause-taken
-returns-clause-taken c = first-taken _ _ _ _ _ c.take_front.result c.take_front.ensures
-
-pub returns-clause-shorter : goal.returns-clause-shorter
-returns-clause-shorter c = first-shorter _ _ _ _ _ c.take_front.result c.take_front.ensures
-
 pub returns-clause-part : goal.returns-clause-part
-returns-clause-part c = first-begins _ _ _ _ _ c.take_front.result c.take_front.ensures
+returns-clause-part c = stops-begins _ _ _ _ _ c.take_front.result c.take_front.ensures.stops
