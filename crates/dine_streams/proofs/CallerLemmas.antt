@@ -4,7 +4,7 @@
 -- bytes that are heard in several pieces
 pub use Rattle.dine_streams.proofs.Pieces.{begun-on, begun-pieces, ended-pieces, text_of_lines}
 -- a stream that is heard read by read
-pub use Rattle.dine_streams.proofs.Hearing.{heard-all, lines-whole, one-begun}
+pub use Rattle.dine_streams.proofs.Hearing.{heard-all, lines-whole, one-begun, seen-kept}
 -- how far the lines of an output are written
 pub use Rattle.dine_streams.proofs.Progress.{Progress, begun, finished, gathered, moved, partly, whole}
 -- whether something of a text is left
