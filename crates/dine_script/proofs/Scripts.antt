@@ -17,10 +17,11 @@ use Rattle.dine_script.proofs.Fronts.{faults_from-append, printed_from-append, s
 
 -- a line asks for the same as it is seen
 pub seen-reading : (names : Names) (line : List ℕ) → reading_seen names (seen_of line) ≡ reading_of names line
-seen-reading names line = elim (cases_Bool (nat_lt 4096 (length line))) [
-  | inl e ↦ rw e refl
-  | inr e ↦ rw e refl
-]
+seen-reading names line = by (nat_lt 4096 (length line)) refl
+  where
+    by : (long : Bool) → nat_lt 4096 (length line) ≡ long → reading_seen names (if long then None else Some line) ≡ reading_of names line
+    by true e = rw e refl
+    by false e = refl
 
 together : (a b c : ℕ) → a + b + c ≡ a + (b + c)
 together a b c = omega arith
