@@ -1,5 +1,5 @@
 -- A script as a command: what it prints for lines as they are seen, and where they leave it.
-use Rattle.std.proofs.Common.{◌≡◌, ℕ, ◌==◌, ◌+◌, ◌-◌, nat_lt, Bool, true, false, if◌then◌else◌, List, [], ◌∷◌, ◌++◌, length, map, take, Option, Some, None, inl, inr, refl, sym, ap, ◌∙◌, append-nil, arith}
+use Rattle.std.proofs.Common.{◌≡◌, ℕ, ◌==◌, ◌+◌, ◌-◌, nat_lt, Bool, true, false, if◌then◌else◌, List, [], ◌∷◌, ◌++◌, length, map, take, Option, Some, None, inl, inr, refl, sym, ap, ◌∙◌, append-nil, zero-add, arith}
 use Rattle.std.proofs.lemmas.Bool.{cases_Bool}
 use Rattle.std.proofs.lemmas.List.{map-append, take-append-drop}
 use Rattle.dine_lines.specs.Names.{Names}
@@ -10,9 +10,13 @@ use Rattle.dine_streams.proofs.CallerLemmas.{ended-left, seen-kept}
 use Rattle.dine_words.specs.Texts.{text_of_lines}
 use Rattle.dine_script.specs.Commands.{reading_of}
 use Rattle.dine_script.specs.Machines.{Script, after_seen, after_unended, prints_seen, prints_unended, reading_seen, script_after, scripts}
-use Rattle.dine_script.specs.Printed.{TakesLines, printed_of}
+use Rattle.dine_lines.specs.declared.print.Print.{Print}
+use Rattle.dine_words.specs.declared.limits.Limits.{Limits}
+use Rattle.dine_script.specs.Printed.{TakesLines, opening_lines, printed_of}
 use Rattle.dine_script.specs.Printed as printed
-use Rattle.dine_script.specs.Script.{Session, after_reading, faults_from, is_fault, standing_from}
+use Rattle.dine_script.specs.Script.{Session, after_reading, faults_from, has_fault_from, is_fault, opening, output_lines, script_output, standing_from}
+use Rattle.dine_script.proofs.PrintedLines.{lines-printed, text-printed}
+use Rattle.dine_script.proofs.Steps.{some_faults}
 use Rattle.dine_script.proofs.Fronts.{faults_from-append, printed_from-append, standing_from-append}
 
 -- a line asks for the same as it is seen
@@ -136,3 +140,23 @@ script-takes s t text rest before after faults whole lines =
           ∙ sym (left-seen s done);
       printed = lines.takes.output ∙ ap (λ l. before ++ text_of_lines l) (sym (printed-seen s done));
     }
+
+-- ---- a run
+
+module _ (print : Print) (limits : Limits) where
+  abbrev at_first : Script
+  at_first = record { session = opening limits; print = print; faults = 0 }
+
+  -- what is printed from the opening on is the script's output
+  pub all-lines : (input : List ℕ) → opening_lines print limits ++ printed_for scripts at_first input ≡ output_lines print limits input
+  all-lines input = ap (λ l. opening_lines print limits ++ l) (script-printed at_first input) ∙ lines-printed print limits input
+
+  pub all-text : (input : List ℕ) → text_of_lines (opening_lines print limits ++ printed_for scripts at_first input) ≡ script_output print limits input
+  all-text input = ap text_of_lines (all-lines input) ∙ text-printed print limits input
+
+  -- a fault is counted where a line has one
+  pub has-fault : (now : Script) (input : List ℕ) → now ≡ standing_after scripts at_first input → nat_lt 0 now.faults ≡ has_fault_from (opening limits) (lines_of input)
+  has-fault now input is =
+      ap (λ (s : Script). nat_lt 0 s.faults) is
+      ∙ ap (nat_lt 0) (script-faults at_first input ∙ zero-add (faults_from (opening limits) (lines_of input)))
+      ∙ some_faults (opening limits) (lines_of input)
