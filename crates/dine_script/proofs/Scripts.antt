@@ -1,5 +1,5 @@
 -- A script as a command: what it prints for lines as they are seen, and where they leave it.
-use Rattle.std.proofs.Common.{◌≡◌, ℕ, ◌==◌, ◌+◌, ◌-◌, nat_lt, Bool, true, false, if◌then◌else◌, List, [], ◌∷◌, ◌++◌, length, map, take, Option, Some, None, inl, inr, refl, sym, ap, ◌∙◌, append-nil, zero-add, arith}
+use Rattle.std.proofs.Common.{◌≡◌, ℕ, ◌==◌, ◌+◌, ◌-◌, nat_lt, Bool, true, false, if◌then◌else◌, List, [], ◌∷◌, ◌++◌, length, map, take, Some, None, inl, inr, refl, sym, ap, ◌∙◌, append-nil, zero-add, arith}
 use Rattle.std.proofs.lemmas.Bool.{cases_Bool}
 use Rattle.std.proofs.lemmas.List.{map-append, take-append-drop}
 use Rattle.dine_lines.specs.Names.{Names}
@@ -17,7 +17,7 @@ use Rattle.dine_script.specs.Printed as printed
 use Rattle.dine_script.specs.Script.{Session, after_reading, faults_from, has_fault_from, is_fault, opening, output_lines, script_output, standing_from}
 use Rattle.dine_script.proofs.PrintedLines.{lines-printed, text-printed}
 use Rattle.dine_script.proofs.Steps.{some_faults}
-use Rattle.dine_script.proofs.Fronts.{faults_from-append, printed_from-append, standing_from-append}
+use Rattle.dine_script.proofs.Fronts.{faults_from-append, printed_from-append}
 
 -- a line asks for the same as it is seen
 pub seen-reading : (names : Names) (line : List ℕ) → reading_seen names (seen_of line) ≡ reading_of names line

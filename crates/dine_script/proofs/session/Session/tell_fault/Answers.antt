@@ -1,4 +1,4 @@
-use Rattle.std.proofs.Common.{true, refl, rules, sym, ap, ◌∙◌}
+use Rattle.std.proofs.Common.{true, sym, ap, ◌∙◌}
 use Rattle.dine_script.specs.Script.{after_reading, is_fault}
 use Rattle.dine_script.proofs.Fronts.{takes-read}
 use Rattle.dine_script.proofs.session.Session.tell_fault.Goals as goal
