@@ -1,6 +1,6 @@
 pub mod Steps
 pub mod Fronts
-pub mod FrontRuns
+pub mod Scripts
 pub mod JournalLines
 pub mod Legal
 pub mod PrintedLines

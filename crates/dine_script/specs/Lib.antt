@@ -3,3 +3,4 @@ pub mod Commands
 pub mod Script
 pub mod Printed
 pub mod Streams
+pub mod Machines

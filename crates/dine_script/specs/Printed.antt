@@ -1,5 +1,5 @@
 -- What each line of a script adds to its output, by what is printed: its answer, or the line of its call in the journal.
-use Rattle.std.specs.Prelude.{◌≡◌, ◌<◌, ◌≤◌, ◌+◌, ◌-◌, ◌^◌, ℕ, Bool, List, [], ◌∷◌, ◌++◌, drop, length, codes, Option, Some, None, Result, Ok, Err}
+use Rattle.std.specs.Prelude.{◌≡◌, ◌<◌, ◌≤◌, ◌-◌, ◌^◌, ℕ, Bool, List, [], ◌∷◌, ◌++◌, drop, length, codes, Option, Some, None, Result, Ok, Err}
 use Rattle.std.specs.Borrow.{Bor}
 use Rattle.dine_words.specs.declared.call.Call.{Call}
 use Rattle.dine_words.specs.declared.call.Call.TheVariants as call
@@ -12,7 +12,6 @@ use Rattle.dine_words.specs.Versions.{written_version}
 use Rattle.dine_lines.specs.declared.line_fault.LineFault.{LineFault}
 use Rattle.dine_lines.specs.Faults.{fault_text}
 use Rattle.dine_lines.specs.Lines.{lines_of}
-use Rattle.dine_streams.specs.Inputs.{HeardInput, IsHeardSoFar}
 use Rattle.dine_lines.specs.declared.print.Print.{Print}
 use Rattle.dine_lines.specs.declared.print.Print.TheVariants.{Replies, Journal}
 use Rattle.dine_script.specs.declared.command.Command.{Command}
@@ -20,7 +19,7 @@ use Rattle.dine_script.specs.declared.command.Command.TheVariants as command
 use Rattle.dine_script.specs.declared.carried.Carried.{Carried}
 use Rattle.dine_script.specs.declared.carried.Carried.TheVariants as carried
 use Rattle.dine_script.specs.Commands.{reading_of}
-use Rattle.dine_script.specs.Script.{Session, after_command, after_reading, answer_of, faults_from, is_fault}
+use Rattle.dine_script.specs.Script.{Session, after_command, after_reading, answer_of, faults_from, is_fault, standing_from}
 
 -- the line of a call that was answered so: its reply, or its entry
 abbrev pub call_line : Print → Call → Reply → List ℕ
@@ -80,14 +79,15 @@ pub record TakesFirst
   pub stands : new ≡ after_reading old (reading_of old.names line)
   pub output : after ≡ before ++ text_of_lines (printed_of print old (reading_of old.names line))
 
--- of these lines those before the rest were carried out: whatever lines come behind, what is printed of those was appended,
--- and so many of those have a fault
+-- of these lines those before the rest were carried out: they left the script so, so many of them have a fault, and what is
+-- printed of them was appended
 pub record TakesSome
     (print : Print) (old new : Session) (lines rest : List (List ℕ)) (before after : List ℕ) (faults : ℕ) : Type 0 where
   pub done : List (List ℕ)
-  pub printed : (more : List (List ℕ)) → printed_from print old (lines ++ more) ≡ done ++ printed_from print new (rest ++ more)
-  pub counted : (more : List (List ℕ)) → faults_from old (lines ++ more) ≡ faults + faults_from new (rest ++ more)
-  pub output : after ≡ before ++ text_of_lines done
+  pub cut : lines ≡ done ++ rest
+  pub stands : new ≡ standing_from old done
+  pub counted : faults ≡ faults_from old done
+  pub output : after ≡ before ++ text_of_lines (printed_from print old done)
 
 -- the lines at the front of a text were carried out, up to what is left of it
 pub record TakesLines
@@ -96,8 +96,6 @@ pub record TakesLines
   pub left : rest ≡ drop (length text - length rest) text
   pub short : length rest ≤ length text
   pub some : 0 < length text → length rest < length text
-  pub few : faults + length rest ≤ length text
-  pub clock : new.table.clock + length rest ≤ old.table.clock + length text
 
 -- so were the first line, and maybe some behind it: how many have a fault, and the rest, are what is answered. Where an error
 -- came, nothing was appended
@@ -116,41 +114,3 @@ abbrev pub TakesSomeOrNoMemory : Print → Session → Session → List ℕ → 
 TakesSomeOrNoMemory print old new text before after (carried.Good left) = TakesUpTo print old new text left before after 0
 TakesSomeOrNoMemory print old new text before after (carried.Faulty left) = TakesUpTo print old new text left before after 1
 TakesSomeOrNoMemory print old new text before after carried.NoMemory = after ≡ before
-
--- so were lines of whole ones at the front of a text, whatever bytes come behind it
-pub record TakesFront
-    (print : Print) (old new : Session) (text rest before after : List ℕ) (faults : ℕ) : Type 0 where
-  pub done : List (List ℕ)
-  pub printed : (more : List ℕ) → printed_from print old (lines_of (text ++ more)) ≡ done ++ printed_from print new (lines_of (rest ++ more))
-  pub counted : (more : List ℕ) → faults_from old (lines_of (text ++ more)) ≡ faults + faults_from new (lines_of (rest ++ more))
-  pub output : after ≡ before ++ text_of_lines done
-  pub few : faults + length rest ≤ length text
-  pub clock : new.table.clock + length rest ≤ old.table.clock + length text
-
--- so were those at the front of what was heard of an input, and what is left of it is the text
-pub record IsFrontRun
-    (print : Print) (old new : Session) (first now : Option (List ℕ)) (input : HeardInput) (before after : List ℕ) (faults : ℕ) : Type 0 where
-  pub bytes : List ℕ
-  pub so_far : IsHeardSoFar bytes first now input
-  pub takes : TakesFront print old new bytes input.text before after faults
-
--- what was appended was printed of lines at the front of these, whatever comes behind them. Nothing is told of the others
-pub record PrintsSome (print : Print) (s : Session) (lines : List (List ℕ)) (before after : List ℕ) : Type 0 where
-  pub done : List (List ℕ)
-  pub others : List (List ℕ) → List (List ℕ)
-  pub printed : (more : List (List ℕ)) → printed_from print s (lines ++ more) ≡ done ++ others more
-  pub output : after ≡ before ++ text_of_lines done
-
--- what was appended was printed of lines at the front of a text, whatever bytes come behind it
-pub record PrintsFront (print : Print) (s : Session) (text before after : List ℕ) : Type 0 where
-  pub done : List (List ℕ)
-  pub others : List ℕ → List (List ℕ)
-  pub printed : (more : List ℕ) → printed_from print s (lines_of (text ++ more)) ≡ done ++ others more
-  pub output : after ≡ before ++ text_of_lines done
-
--- so it was at the front of what was heard of an input
-pub record IsFrontPrinted
-    (print : Print) (s : Session) (first now : Option (List ℕ)) (input : HeardInput) (before after : List ℕ) : Type 0 where
-  pub bytes : List ℕ
-  pub so_far : IsHeardSoFar bytes first now input
-  pub prints : PrintsFront print s bytes before after

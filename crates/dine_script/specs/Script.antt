@@ -101,6 +101,11 @@ faults_from s (line ∷ lines) =
     let reading = reading_of s.names line in
     (if is_fault reading then 1 else 0) + faults_from (after_reading s reading) lines
 
+-- where the script stands after these lines
+abbrev pub standing_from : Session → List (List ℕ) → Session
+standing_from s [] = s
+standing_from s (line ∷ lines) = standing_from (after_reading s (reading_of s.names line)) lines
+
 -- ---- the calls that are made
 
 -- the entry of a call, with the table's reply. A script's calls are on pass 0

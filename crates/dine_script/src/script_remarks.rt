@@ -30,17 +30,8 @@ impl FaultRemarks {
         }
     }
 
-    /// Notes what is wrong with the first line of a text, which was carried out last, where it has a fault.
-    #[inline(always)]
-    pub fn look(&mut self, text: &[u8], fault: bool, session: &Session) {
-        if fault {
-            self.note(text, session);
-        }
-    }
-
-    // Notes what is wrong with the first line of a text.
-    #[inline(never)]
-    fn note(&mut self, text: &[u8], session: &Session) {
+    /// Notes what is wrong with the first line of a text, which was carried out last and has a fault.
+    pub fn note(&mut self, text: &[u8], session: &Session) {
         if session.lines() == 1 {
             self.is_journal = text.starts_with(b"dine ");
         }

@@ -1,6 +1,6 @@
 //! Where a script stands, and what it answers to one line.
 
-ghost use Rattle.std.specs.Prelude.{◌≡◌, Err, ◌<◌, ◌-◌, ◌^◌, ◌∷◌, ◌++◌, true, false, not, is_some, IfErr, IfOk, OnErr, OnOk, None, Some};
+ghost use Rattle.std.specs.Prelude.{◌≡◌, nat_le, Err, ◌<◌, ◌-◌, ◌^◌, ◌∷◌, ◌++◌, true, false, not, is_some, IfErr, IfOk, OnErr, OnOk, None, Some};
 ghost use Rattle.dine_script.specs.Commands.{IsFree, ReadsFirst, reading_of, usual_command};
 ghost use Rattle.dine_lines.specs.Usual as usual;
 ghost use Rattle.dine_lines.specs.Names.{is_name, task_named};
@@ -71,6 +71,21 @@ impl Session {
     /// How many lines were carried out.
     pub fn lines(&self) -> u64 {
         self.lines
+    }
+
+    /// The limits of its table.
+    pub fn limits(&self) -> Limits
+        ensures { result ≡ self.now.table.limits }
+    {
+        self.arbiter.limits()
+    }
+
+    /// Whether no more joins and finishes can be counted in 64 bits.
+    #[inline(always)]
+    pub fn is_worn_out(&self) -> bool
+        ensures { result ≡ nat_le (2 ^ 64 - 1) self.now.table.clock }
+    {
+        u64::MAX <= self.arbiter.clock()
     }
 
     /// Carries out the first line of a text, appends what is printed of it to `out`, and answers how many lines have a
@@ -348,6 +363,22 @@ impl Session {
             }
             Err(_) => Carried::NoMemory,
         }
+    }
+
+    /// Carries out a line without its line feed, and answers whether it has a fault. On `Err` nothing was appended.
+    pub fn take_unended(&mut self, line: &[u8], print: Print, out: &mut Vec<u8>) -> Answered<bool>
+        requires { self.old.table.clock < 2 ^ 64 - 1 }
+        ensures fault { IfOk result (λ fault.
+            fault ≡ is_fault (reading_of self.old.names line.now)) }
+        ensures after { OnOk result
+            (self.new ≡ after_reading self.old (reading_of self.old.names line.now)) }
+        ensures output { OnOk result (out.new.items ≡ out.old.items ++ text_of_lines
+            (printed_of print self.old (reading_of self.old.names line.now))) }
+        ensures err { OnErr result (out.new.items ≡ out.old.items) }
+    {
+        let has_fault = self.take_other(line, print, out)?;
+        self.count_line();
+        Ok(has_fault)
     }
 
     // Tells the fault of the first line of a text, behind which this rest is left. The text is there for the contract alone.
