@@ -1,13 +1,15 @@
 -- Lines at the front of a text that are carried out.
-use Rattle.std.proofs.Common.{◌≡◌, ℕ, ◌+◌, ◌-◌, ◌<◌, ◌≤◌, Bool, List, [], ◌∷◌, ◌++◌, length, drop, refl, sym, ap, ◌∙◌, subst, append_assoc, append-nil, arith, if◌then◌else◌}
+use Rattle.std.proofs.Common.{◌≡◌, ℕ, ◌+◌, ◌-◌, ◌<◌, ◌≤◌, Bool, List, [], ◌∷◌, ◌++◌, length, drop, Result, refl, sym, ap, ◌∙◌, subst, append_assoc, append-nil, arith, if◌then◌else◌}
 use Rattle.std.proofs.lemmas.List.{drop-drop}
 use Rattle.std.proofs.lemmas.Grind.{flat_map-append}
 use Rattle.dine_words.specs.Texts.{text_of_lines}
 use Rattle.dine_lines.specs.declared.print.Print.{Print}
 use Rattle.dine_lines.specs.Lines.{lines_of}
-use Rattle.dine_script.specs.Commands.{reading_of}
-use Rattle.dine_script.specs.Printed.{TakesFirst, TakesLines, TakesSome, TakesUpTo, printed_from, printed_of}
-use Rattle.dine_script.specs.Script.{Session, after_reading, faults_from, is_fault, standing_from}
+use Rattle.dine_lines.specs.declared.line_fault.LineFault.{LineFault}
+use Rattle.dine_script.specs.declared.command.Command.{Command}
+use Rattle.dine_script.specs.Commands.{ReadsFirst, reading_of, some_command}
+use Rattle.dine_script.specs.Printed.{TakesFirst, TakesLines, TakesSome, TakesUpTo}
+use Rattle.dine_script.specs.Script.{Session, after_reading, faults_from, is_fault, printed_from, printed_of, standing_from}
 
 -- ---- lines one after the other
 
@@ -26,11 +28,14 @@ standing_from-append s [] ys = refl
 standing_from-append s (x ∷ xs) ys = standing_from-append (after_reading s (reading_of s.names x)) xs ys
 
 -- how many of them have a fault
+none : (a : ℕ) → a ≡ 0 + a
+none a = omega arith
+
 together : (a b c : ℕ) → a + (b + c) ≡ a + b + c
 together a b c = omega arith
 
 pub faults_from-append : (s : Session) (xs ys : List (List ℕ)) → faults_from s (xs ++ ys) ≡ faults_from s xs + faults_from (standing_from s xs) ys
-faults_from-append s [] ys = refl
+faults_from-append s [] ys = none (faults_from s ys)
 faults_from-append s (x ∷ xs) ys =
     let reading = reading_of s.names x in
     let next = after_reading s reading in
@@ -88,6 +93,26 @@ takes-up-to print s t text rest before after faults lines = record {
   within = lines.short;
   taken = subst (λ left. TakesLines print s t text left before after faults) lines.left lines;
 }
+
+-- and its fault is told
+pub takes-told : (print : Print) (s t : Session) (text rest before after : List ℕ) (fault told : Bool) → fault ≡ told → TakesFirst print s t text rest before after fault → TakesUpTo print s t text (length rest) before after (if told then 1 else 0)
+takes-told print s t text rest before after fault told same first =
+    subst (λ b. TakesUpTo print s t text (length rest) before after (if b then 1 else 0)) same
+    (takes-up-to print s t text rest before after (if fault then 1 else 0) (takes-one print s t text rest before after fault first))
+
+-- it asks for a command, or has a fault
+pub takes-read : (print : Print) (s t : Session) (text rest before after : List ℕ) (reading : Result Command LineFault) → ReadsFirst s.names text rest reading → t ≡ after_reading s (some_command reading) → after ≡ before ++ text_of_lines (printed_of print s (some_command reading)) → TakesUpTo print s t text (length rest) before after (if is_fault (some_command reading) then 1 else 0)
+takes-read print s t text rest before after reading first stands output =
+    takes-told print s t text rest before after (is_fault (some_command reading)) (is_fault (some_command reading)) refl
+    record {
+      line = first.line;
+      first = first.first;
+      shorter = first.shorter;
+      left = first.left;
+      told = ap is_fault (sym first.read);
+      stands = stands ∙ ap (after_reading s) (sym first.read);
+      output = output ∙ ap (λ r. before ++ text_of_lines (printed_of print s r)) (sym first.read);
+    }
 
 module _ (print : Print) (s t u : Session) (text now rest before held after : List ℕ) (faults one : ℕ) (a : TakesSome print s t (lines_of text) (lines_of now) before held faults) (left : now ≡ drop (length text - length now) text) (short : length now ≤ length text) (lines : TakesLines print t u now rest held after one) where
   -- and then lines at the front of what was left

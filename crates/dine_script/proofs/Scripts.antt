@@ -1,25 +1,29 @@
 -- A script as a command: what it prints for lines as they are seen, and where they leave it.
-use Rattle.std.proofs.Common.{◌≡◌, ℕ, ◌==◌, ◌+◌, ◌-◌, nat_lt, Bool, true, false, if◌then◌else◌, List, [], ◌∷◌, ◌++◌, length, map, take, Option, Some, None, refl, sym, ap, ◌∙◌, append-nil, arith}
+use Rattle.std.proofs.Common.{◌≡◌, ◌≢◌, ℕ, ◌==◌, ◌+◌, ◌-◌, nat_lt, Bool, true, false, if◌then◌else◌, List, [], ◌∷◌, ◌++◌, length, map, take, Option, Some, None, IfSome, inl, inr, refl, sym, ap, ◌∙◌, subst, append-nil, arith}
 use Rattle.std.proofs.lemmas.Bool.{cases_Bool}
 use Rattle.std.proofs.lemmas.List.{map-append, take-append-drop}
 use Rattle.dine_lines.specs.Names.{Names}
 use Rattle.dine_lines.specs.Lines.{lines_of, onto_first}
 use Rattle.dine_streams.specs.Lines.{begun_line, ended_lines, kept_of, seen_lines, seen_of}
 use Rattle.dine_streams.specs.Machines.{Takes, left_by, printed_for, printed_from, standing_after}
-use Rattle.dine_streams.proofs.CallerLemmas.{ended-left, seen-kept}
+use Rattle.dine_streams.proofs.CallerLemmas.{ended-left, of_known, seen-kept}
+use Rattle.dine_streams.specs.Ending.{end_of}
+use Rattle.dine_words.specs.declared.limits.Limits.{Limits}
 use Rattle.dine_words.specs.Texts.{text_of_lines}
+use Rattle.dine_lines.specs.declared.print.Print.{Print}
 use Rattle.dine_script.specs.Commands.{reading_of}
 use Rattle.dine_script.specs.Machines.{Script, after_seen, after_unended, prints_seen, prints_unended, reading_seen, script_after, scripts}
-use Rattle.dine_script.specs.Printed.{TakesLines, printed_of}
-use Rattle.dine_script.specs.Printed as printed
-use Rattle.dine_script.specs.Script.{Session, after_reading, faults_from, is_fault, standing_from}
+use Rattle.dine_script.specs.Printed.{TakesLines}
+use Rattle.dine_script.specs.Script as printed
+use Rattle.dine_script.specs.Script.{Session, after_reading, faults_from, is_fault, opening, opening_lines, output_lines, printed_of, script_end, script_output, standing_from}
 use Rattle.dine_script.proofs.Fronts.{faults_from-append, printed_from-append, standing_from-append}
+use Rattle.dine_script.proofs.PrintedLines.{lines-printed, text-printed}
 
 -- a line asks for the same as it is seen
 pub seen-reading : (names : Names) (line : List ℕ) → reading_seen names (seen_of line) ≡ reading_of names line
 seen-reading names line = elim (cases_Bool (nat_lt 4096 (length line))) [
   | inl e ↦ rw e refl
-  | inr e ↦ rw e refl
+  | inr e ↦ rw e (rw e refl)
 ]
 
 together : (a b c : ℕ) → a + b + c ≡ a + (b + c)
@@ -79,6 +83,13 @@ last-printed s (x ∷ xs) =
     ∙ ap (printed_of s.print s.session) (seen-reading s.session.names (x ∷ xs))
     ∙ sym (append-nil (printed_of s.print s.session (reading_of s.session.names (x ∷ xs))))
 
+-- a last line that has begun asks for what it says
+pub unended : (s : Script) (begun : List ℕ) → begun ≢ [] → (prints_unended s begun ≡ printed_of s.print s.session (reading_of s.session.names begun)) × (after_unended s begun ≡ script_after s (reading_of s.session.names begun))
+unended s [] some = absurd (some refl)
+unended s (x ∷ xs) some =
+    let same = seen-reading s.session.names (x ∷ xs) in
+    (ap (printed_of s.print s.session) same, ap (script_after s) same)
+
 -- and how many faults it leaves
 last-left : (s : Script) (begun : List ℕ) → (after_unended s (kept_of begun)).faults ≡ s.faults + faults_from s.session (last_line begun)
 last-left s [] = omega arith
@@ -135,3 +146,30 @@ script-takes s t text rest before after faults whole lines =
           ∙ sym (left-seen s done);
       printed = lines.takes.output ∙ ap (λ l. before ++ text_of_lines l) (sym (printed-seen s done));
     }
+
+-- ---- a run
+
+-- a script of which no line was carried out
+abbrev pub at_first : Limits → Print → Script
+at_first limits print = record { session = opening limits; print = print; faults = 0 }
+
+module _ (limits : Limits) (print : Print) where
+  -- its output lines are what is printed first and for its input
+  output-printed : (input : List ℕ) → opening_lines print limits ++ printed_for scripts (at_first limits print) input ≡ output_lines print limits input
+  output-printed input = ap (λ l. opening_lines print limits ++ l) (script-printed (at_first limits print) input) ∙ lines-printed print limits input
+
+  -- so what is known of what is written is known of these
+  pub lines-known : (input : Option (List ℕ)) (Wrote : List (List ℕ) → Type 0) → IfSome input (λ bytes. Wrote (opening_lines print limits ++ printed_for scripts (at_first limits print) bytes)) → IfSome input (λ bytes. Wrote (output_lines print limits bytes))
+  lines-known input Wrote = of_known input _ _ (λ bytes. subst Wrote (output-printed bytes))
+
+  -- and of their text
+  pub text-known : (input : Option (List ℕ)) (Wrote : List ℕ → Type 0) → IfSome input (λ bytes. Wrote (text_of_lines (opening_lines print limits ++ printed_for scripts (at_first limits print) bytes))) → IfSome input (λ bytes. Wrote (script_output print limits bytes))
+  text-known input Wrote = of_known input _ _ (λ bytes. subst Wrote (ap text_of_lines (output-printed bytes) ∙ text-printed print limits bytes))
+
+  -- and it ends as its lines tell
+  pub end-told : (input : List ℕ) (s : Script) → s ≡ standing_after scripts (at_first limits print) input → end_of (nat_lt 0 s.faults) ≡ script_end limits input
+  end-told input s is =
+      let faults = faults_from (opening limits) (lines_of input) in
+      let none : 0 + faults ≡ faults = omega arith in
+      ap (λ (t : Script). end_of (nat_lt 0 t.faults)) is
+      ∙ ap (λ n. end_of (nat_lt 0 n)) (script-faults (at_first limits print) input ∙ none)

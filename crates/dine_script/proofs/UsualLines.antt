@@ -18,8 +18,8 @@ use Rattle.dine_lines.specs.declared.print.Print.{Print}
 use Rattle.dine_script.proofs.Fronts.{takes-one}
 use Rattle.dine_script.specs.declared.command.Command.TheVariants as command
 use Rattle.dine_script.specs.Commands.{command_of, reading_of, some_command, usual_command}
-use Rattle.dine_script.specs.Printed.{TakesLines, printed_by}
-use Rattle.dine_script.specs.Script.{Session, after_command}
+use Rattle.dine_script.specs.Printed.{TakesLines}
+use Rattle.dine_script.specs.Script.{Session, after_command, printed_by}
 use Rattle.dine_words.specs.Texts.{text_of_lines}
 
 -- a name is short

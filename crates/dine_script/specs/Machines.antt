@@ -8,8 +8,7 @@ use Rattle.dine_streams.specs.Lines.{seen_of}
 use Rattle.dine_streams.specs.Machines.{Rules}
 use Rattle.dine_script.specs.declared.command.Command.{Command}
 use Rattle.dine_script.specs.Commands.{reading_of}
-use Rattle.dine_script.specs.Printed.{opening_lines, printed_of}
-use Rattle.dine_script.specs.Script.{Session, after_reading, is_fault}
+use Rattle.dine_script.specs.Script.{Session, after_reading, is_fault, opening_lines, printed_of}
 
 -- a script that is run: where it stands, what is printed of it, and how many of its lines have a fault
 pub record Script : Type 0 where

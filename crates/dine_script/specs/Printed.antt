@@ -1,61 +1,14 @@
--- What each line of a script adds to its output, by what is printed: its answer, or the line of its call in the journal.
-use Rattle.std.specs.Prelude.{◌≡◌, ◌<◌, ◌≤◌, ◌-◌, ◌^◌, ℕ, Bool, List, [], ◌∷◌, ◌++◌, drop, length, codes, Option, Some, None, Result, Ok, Err}
+-- What the steps of a script do: to where it stands, and to what is printed.
+use Rattle.std.specs.Prelude.{◌≡◌, ◌<◌, ◌≤◌, ◌-◌, ◌^◌, ℕ, Bool, List, ◌∷◌, ◌++◌, drop, length, Result, Ok, Err}
 use Rattle.std.specs.Borrow.{Bor}
-use Rattle.dine_words.specs.declared.call.Call.{Call}
-use Rattle.dine_words.specs.declared.call.Call.TheVariants as call
-use Rattle.dine_words.specs.declared.call.Reply.{Reply}
-use Rattle.dine_words.specs.declared.limits.Limits.{Limits}
-use Rattle.dine_table.specs.Table.{Table}
-use Rattle.dine_table.specs.Calls.{reply_of}
-use Rattle.dine_words.specs.Texts.{entry_text, header_text, reply_text, text_of_lines}
-use Rattle.dine_words.specs.Versions.{written_version}
-use Rattle.dine_lines.specs.declared.line_fault.LineFault.{LineFault}
-use Rattle.dine_lines.specs.Faults.{fault_text}
+use Rattle.dine_words.specs.Texts.{text_of_lines}
 use Rattle.dine_lines.specs.Lines.{lines_of}
 use Rattle.dine_lines.specs.declared.print.Print.{Print}
-use Rattle.dine_lines.specs.declared.print.Print.TheVariants.{Replies, Journal}
 use Rattle.dine_script.specs.declared.command.Command.{Command}
-use Rattle.dine_script.specs.declared.command.Command.TheVariants as command
 use Rattle.dine_script.specs.declared.carried.Carried.{Carried}
 use Rattle.dine_script.specs.declared.carried.Carried.TheVariants as carried
 use Rattle.dine_script.specs.Commands.{reading_of}
-use Rattle.dine_script.specs.Script.{Session, after_command, after_reading, answer_of, faults_from, is_fault, standing_from}
-
--- the line of a call that was answered so: its reply, or its entry
-abbrev pub call_line : Print → Call → Reply → List ℕ
-call_line Replies asked reply = reply_text reply
-call_line Journal asked reply = entry_text record { pass = 0; call = asked; reply = reply }
-
--- the lines of what is no call: a journal has none
-abbrev pub lines_beside : Print → List ℕ → List (List ℕ)
-lines_beside Replies text = text ∷ []
-lines_beside Journal text = []
-
--- the lines of a command, in a table
-abbrev pub printed_by : Print → Table → Command → List (List ℕ)
-printed_by print table (command.Join name) = call_line print call.Join (reply_of table call.Join) ∷ []
-printed_by print table (command.Call asked) = call_line print asked (reply_of table asked) ∷ []
-printed_by print table (command.State t) = lines_beside print (answer_of table (command.State t))
-printed_by print table (command.Neighbours t) = lines_beside print (answer_of table (command.Neighbours t))
-printed_by print table command.Next = lines_beside print (answer_of table command.Next)
-
--- the lines of a line that was read so
-abbrev pub printed_of : Print → Session → Result (Option Command) LineFault → List (List ℕ)
-printed_of print s (Ok None) = []
-printed_of print s (Ok (Some asked)) = printed_by print s.table asked
-printed_of print s (Err reason) = lines_beside print (codes "fault " ++ fault_text reason)
-
--- the lines of these lines, one after the other
-abbrev pub printed_from : Print → Session → List (List ℕ) → List (List ℕ)
-printed_from print s [] = []
-printed_from print s (line ∷ lines) =
-    let reading = reading_of s.names line in
-    printed_of print s reading ++ printed_from print (after_reading s reading) lines
-
--- the lines before the first: a journal has its header
-abbrev pub opening_lines : Print → Limits → List (List ℕ)
-opening_lines Replies limits = []
-opening_lines Journal limits = header_text written_version limits ∷ []
+use Rattle.dine_script.specs.Script.{Session, after_command, after_reading, faults_from, is_fault, printed_by, printed_from, printed_of, standing_from}
 
 -- a command was carried out: where the script stands now, and what was appended, are those of the command
 pub record CarriesOutCommand (print : Print) (old new : Session) (asked : Command) (before behind : List ℕ) : Type 0 where

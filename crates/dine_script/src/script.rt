@@ -55,8 +55,19 @@ impl Script {
 
     // Counts so many faults of the first line of a text, which was carried out last, and notes what is wrong with it. An
     // error is that no more can be counted.
+    #[inline(always)]
+    fn count_faults(&mut self, text: &[u8], faulty: usize) -> Result<(), AllocError>
+        ensures { OnOk result (self.new ≡ record self.old { faults = self.old.faults + faulty }) }
+    {
+        if faulty == 0 {
+            return Ok(());
+        }
+        self.note_faults(text, faulty)
+    }
+
+    // As `count_faults`, of some.
     #[inline(never)]
-    fn note_fault(&mut self, text: &[u8], faulty: usize) -> Result<(), AllocError>
+    fn note_faults(&mut self, text: &[u8], faulty: usize) -> Result<(), AllocError>
         ensures { OnOk result (self.new ≡ record self.old { faults = self.old.faults + faulty }) }
     {
         let Some(faults) = self.faults.checked_add(faulty) else {
@@ -81,9 +92,7 @@ impl Machine for Script {
             return Err(AllocError);
         }
         let (faulty, rest) = self.session.take_first(text, self.print, out)?;
-        if faulty > 0 {
-            self.note_fault(text, faulty)?;
-        }
+        self.count_faults(text, faulty)?;
         Ok(rest)
     }
 
@@ -95,10 +104,8 @@ impl Machine for Script {
         if self.session.is_worn_out() {
             return Err(AllocError);
         }
-        if self.session.take_unended(begun, self.print, out)? {
-            self.note_fault(begun, 1)?;
-        }
-        Ok(())
+        let faulty = self.session.take_unended(begun, self.print, out)?;
+        self.count_faults(begun, usize::from(faulty))
     }
 }
 

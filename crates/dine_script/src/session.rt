@@ -6,8 +6,8 @@ ghost use Rattle.dine_lines.specs.Usual as usual;
 ghost use Rattle.dine_lines.specs.Names.{is_name, task_named};
 ghost use Rattle.dine_lines.specs.UsualLines.{BeginsOne};
 ghost use Rattle.dine_words.specs.CallWords.{join_word, word_on_one};
-ghost use Rattle.dine_script.specs.Printed.{CanTakeFirst, CarriesOutCommand, TakesSomeOrFails, TakesSomeOrNoMemory, printed_by, printed_of};
-ghost use Rattle.dine_script.specs.Script.{after_command, after_reading, is_fault, names_after_join, opening};
+ghost use Rattle.dine_script.specs.Printed.{CanTakeFirst, CarriesOutCommand, TakesSomeOrFails, TakesSomeOrNoMemory};
+ghost use Rattle.dine_script.specs.Script.{after_command, after_reading, is_fault, names_after_join, opening, printed_by, printed_of};
 ghost use Rattle.dine_words.specs.Texts.{text_of_lines};
 
 use crate::carried::Carried;

@@ -3,8 +3,7 @@ use Rattle.dine_lines.specs.Names.{task_named}
 use Rattle.dine_lines.specs.declared.line_fault.LineFault.TheVariants as fault
 use Rattle.dine_script.specs.declared.command.Command.TheVariants as command
 use Rattle.dine_script.specs.Commands.{ReadsFirst}
-use Rattle.dine_script.specs.Printed.{printed_by}
-use Rattle.dine_script.specs.Script.{after_command}
+use Rattle.dine_script.specs.Script.{after_command, printed_by}
 use Rattle.dine_words.specs.Texts.{text_of_lines}
 use Rattle.dine_script.proofs.Fronts.{takes-up-to}
 use Rattle.dine_script.proofs.ShortLines.{reads-bound}
