@@ -1,5 +1,5 @@
 -- A script as a command: what it prints for lines as they are seen, and where they leave it.
-use Rattle.std.proofs.Common.{◌≡◌, ◌≢◌, ℕ, ◌==◌, ◌+◌, ◌-◌, nat_lt, Bool, true, false, if◌then◌else◌, List, [], ◌∷◌, ◌++◌, length, map, take, Option, Some, None, IfSome, inl, inr, refl, sym, ap, ◌∙◌, subst, append-nil, arith}
+use Rattle.std.proofs.Common.{◌≡◌, ◌≢◌, ℕ, ◌==◌, ◌+◌, ◌-◌, nat_lt, if◌then◌else◌, List, [], ◌∷◌, ◌++◌, length, map, take, Option, IfSome, inl, inr, refl, sym, ap, ◌∙◌, subst, append-nil, arith}
 use Rattle.std.proofs.lemmas.Bool.{cases_Bool}
 use Rattle.std.proofs.lemmas.List.{map-append, take-append-drop}
 use Rattle.dine_lines.specs.Names.{Names}
@@ -16,7 +16,7 @@ use Rattle.dine_script.specs.Machines.{Script, after_seen, after_unended, prints
 use Rattle.dine_script.specs.Printed.{TakesLines}
 use Rattle.dine_script.specs.Script as printed
 use Rattle.dine_script.specs.Script.{Session, after_reading, faults_from, is_fault, opening, opening_lines, output_lines, printed_of, script_end, script_output, standing_from}
-use Rattle.dine_script.proofs.Fronts.{faults_from-append, printed_from-append, standing_from-append}
+use Rattle.dine_script.proofs.Fronts.{faults_from-append, printed_from-append}
 use Rattle.dine_script.proofs.PrintedLines.{lines-printed, text-printed}
 
 -- a line asks for the same as it is seen

@@ -12,7 +12,9 @@ use crate::printed::push_opening;
 use crate::script_remarks::FaultRemarks;
 use crate::session::Session;
 use dine_lines::{Listener, Print, Seed};
-use dine_streams::{CliFault, Ended, MAX_INPUT, Machine, end_of, fault_without_memory, run_once_read};
+use dine_streams::{
+    CliFault, Ended, MAX_INPUT, Machine, end_of, fault_without_memory, run_once_read,
+};
 use dine_words::{Limits, Sink, Source};
 use std::alloc::{AllocError, Global};
 use std::marker::Model;

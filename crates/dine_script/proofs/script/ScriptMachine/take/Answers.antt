@@ -1,4 +1,4 @@
-use Rattle.std.proofs.Common.{◌≡◌, ◌+◌, ◌∙◌, rules, subst, sym}
+use Rattle.std.proofs.Common.{◌≡◌, ◌+◌, rules, subst, sym}
 use Rattle.dine_streams.specs.Machines.{Takes}
 use Rattle.dine_script.specs.Machines.{Script, scripts}
 use Rattle.dine_script.specs.Printed.{TakesLines}
