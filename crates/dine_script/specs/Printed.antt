@@ -1,14 +1,16 @@
 -- What the steps of a script do: to where it stands, and to what is printed.
-use Rattle.std.specs.Prelude.{◌≡◌, ◌<◌, ◌≤◌, ◌-◌, ◌^◌, ℕ, Bool, List, ◌∷◌, ◌++◌, drop, length, Result, Ok, Err}
+use Rattle.std.specs.Prelude.{◌≡◌, ◌<◌, ◌≤◌, ◌+◌, ◌-◌, ◌^◌, ℕ, Bool, List, map, ◌∷◌, ◌++◌, drop, length, Result, Ok, Err}
 use Rattle.std.specs.Borrow.{Bor}
 use Rattle.dine_words.specs.Texts.{text_of_lines}
 use Rattle.dine_lines.specs.Lines.{lines_of}
+use Rattle.dine_streams.specs.Lines.{seen_of}
+use Rattle.dine_streams.specs.Machines.{left_by, printed_from}
 use Rattle.dine_lines.specs.declared.print.Print.{Print}
 use Rattle.dine_script.specs.declared.command.Command.{Command}
 use Rattle.dine_script.specs.declared.carried.Carried.{Carried}
 use Rattle.dine_script.specs.declared.carried.Carried.TheVariants as carried
 use Rattle.dine_script.specs.Commands.{reading_of}
-use Rattle.dine_script.specs.Script.{Session, after_command, after_reading, faults_from, is_fault, printed_by, printed_from, printed_of, standing_from}
+use Rattle.dine_script.specs.Script.{Script, Session, after_command, after_reading, is_fault, printed_by, printed_of, scripts}
 
 -- a command was carried out: where the script stands now, and what was appended, are those of the command
 pub record CarriesOutCommand (print : Print) (old new : Session) (asked : Command) (before behind : List ℕ) : Type 0 where
@@ -32,15 +34,18 @@ pub record TakesFirst
   pub stands : new ≡ after_reading old (reading_of old.names line)
   pub output : after ≡ before ++ text_of_lines (printed_of print old (reading_of old.names line))
 
+-- a script that stands so, behind so many lines with a fault
+abbrev pub standing : Print → Session → ℕ → Script
+standing print session faults = record { session = session; print = print; faults = faults }
+
 -- of these lines those before the rest were carried out: they left the script so, so many of them have a fault, and what is
--- printed of them was appended
+-- printed of them was appended, however many had a fault before
 pub record TakesSome
     (print : Print) (old new : Session) (lines rest : List (List ℕ)) (before after : List ℕ) (faults : ℕ) : Type 0 where
   pub done : List (List ℕ)
   pub cut : lines ≡ done ++ rest
-  pub stands : new ≡ standing_from old done
-  pub counted : faults ≡ faults_from old done
-  pub output : after ≡ before ++ text_of_lines (printed_from print old done)
+  pub leaves : (n : ℕ) → standing print new (n + faults) ≡ left_by scripts (standing print old n) (map seen_of done)
+  pub output : (n : ℕ) → after ≡ before ++ text_of_lines (printed_from scripts (standing print old n) (map seen_of done))
 
 -- the lines at the front of a text were carried out, up to what is left of it
 pub record TakesLines

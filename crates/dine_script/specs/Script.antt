@@ -14,9 +14,12 @@ use Rattle.dine_words.specs.JournalText.{journal_text}
 use Rattle.dine_script.specs.declared.command.Command.{Command}
 use Rattle.dine_script.specs.declared.command.Command.TheVariants as command
 use Rattle.dine_lines.specs.declared.line_fault.LineFault.{LineFault}
+use Rattle.dine_lines.specs.declared.line_fault.LineFault.TheVariants as fault
 use Rattle.dine_lines.specs.Faults.{fault_text}
 use Rattle.dine_streams.specs.declared.ended.Ended.{Ended}
 use Rattle.dine_streams.specs.Ending.{end_of}
+use Rattle.dine_streams.specs.Lines.{seen_of}
+use Rattle.dine_streams.specs.Machines.{Rules, printed_for, standing_after}
 use Rattle.dine_lines.specs.declared.print.Print.{Print}
 use Rattle.dine_lines.specs.declared.print.Print.TheVariants.{Replies, Journal}
 use Rattle.dine_lines.specs.Lines.{lines_of}
@@ -93,24 +96,62 @@ abbrev pub is_fault : Result (Option Command) LineFault → Bool
 is_fault (Ok asked) = false
 is_fault (Err reason) = true
 
--- the lines that are printed of these lines, one line after the other
-abbrev pub printed_from : Print → Session → List (List ℕ) → List (List ℕ)
-printed_from print s [] = []
-printed_from print s (line ∷ lines) =
-    let reading = reading_of s.names line in
-    printed_of print s reading ++ printed_from print (after_reading s reading) lines
+-- ---- a script as a command
 
--- how many of these lines have a fault
-abbrev pub faults_from : Session → List (List ℕ) → ℕ
-faults_from s [] = 0
-faults_from s (line ∷ lines) =
-    let reading = reading_of s.names line in
-    (if is_fault reading then 1 else 0) + faults_from (after_reading s reading) lines
+-- a script that is run: where it stands, what is printed of it, and how many of its lines have a fault
+pub record Script : Type 0 where
+  pub session : Session
+  pub print : Print
+  pub faults : ℕ
 
--- where the script stands after these lines
-abbrev pub standing_from : Session → List (List ℕ) → Session
-standing_from s [] = s
-standing_from s (line ∷ lines) = standing_from (after_reading s (reading_of s.names line)) lines
+-- what a line asks for, as it is seen
+abbrev pub reading_seen : Names → Option (List ℕ) → Result (Option Command) LineFault
+reading_seen names None = Err fault.Words
+reading_seen names (Some line) = reading_of names line
+
+-- where the script stands after a line that was read so
+abbrev pub script_after : Script → Result (Option Command) LineFault → Script
+script_after s reading =
+    record s {
+      session = after_reading s.session reading;
+      faults = s.faults + (if is_fault reading then 1 else 0);
+    }
+
+-- a line, as it is seen: what is printed of it, and where it leaves the script
+abbrev pub prints_seen : Script → Option (List ℕ) → List (List ℕ)
+prints_seen s line = printed_of s.print s.session (reading_seen s.session.names line)
+
+abbrev pub after_seen : Script → Option (List ℕ) → Script
+after_seen s line = script_after s (reading_seen s.session.names line)
+
+-- a last line that lacks its line feed is one all the same
+abbrev pub prints_unended : Script → List ℕ → List (List ℕ)
+prints_unended s [] = []
+prints_unended s (byte ∷ bytes) = prints_seen s (seen_of (byte ∷ bytes))
+
+abbrev pub after_unended : Script → List ℕ → Script
+after_unended s [] = s
+after_unended s (byte ∷ bytes) = after_seen s (seen_of (byte ∷ bytes))
+
+-- the lines before the first: a journal has its header
+abbrev pub opening_lines : Print → Limits → List (List ℕ)
+opening_lines Replies limits = []
+opening_lines Journal limits = header_text written_version limits ∷ []
+
+-- what a script is, as a command
+abbrev pub scripts : Rules Script
+scripts =
+    record {
+      prints_first = λ s. opening_lines s.print s.session.table.limits;
+      prints = prints_seen;
+      after = after_seen;
+      prints_last = prints_unended;
+      after_last = after_unended;
+    }
+
+-- a script of which no line was carried out
+abbrev pub at_first : Limits → Print → Script
+at_first limits print = record { session = opening limits; print = print; faults = 0 }
 
 -- ---- the calls that are made
 
@@ -144,18 +185,13 @@ entries_from s (line ∷ lines) =
 abbrev pub script_history : Limits → List ℕ → List Entry
 script_history limits input = entries_from (opening limits) (lines_of input)
 
--- the lines before the first: a journal has its header
-abbrev pub opening_lines : Print → Limits → List (List ℕ)
-opening_lines Replies limits = []
-opening_lines Journal limits = header_text written_version limits ∷ []
-
 -- the lines of a journal, without their line feeds
 abbrev pub journal_lines : Limits → List Entry → List (List ℕ)
 journal_lines limits entries = header_text written_version limits ∷ map entry_text entries
 
 -- the output lines of a script: its answers, or the lines of its journal alone
 abbrev pub output_lines : Print → Limits → List ℕ → List (List ℕ)
-output_lines Replies limits input = printed_from Replies (opening limits) (lines_of input)
+output_lines Replies limits input = printed_for scripts (at_first limits Replies) input
 output_lines Journal limits input = journal_lines limits (script_history limits input)
 
 -- the output of a script: its answers, each with its line feed, or the text of its journal alone
@@ -165,4 +201,4 @@ script_output Journal limits input = journal_text limits (script_history limits 
 
 -- how a script ends, whatever it prints: with a fault where a line has one. A refusal is no fault
 abbrev pub script_end : Limits → List ℕ → Ended
-script_end limits input = end_of (nat_lt 0 (faults_from (opening limits) (lines_of input)))
+script_end limits input = end_of (nat_lt 0 (standing_after scripts (at_first limits Replies) input).faults)

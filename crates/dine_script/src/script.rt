@@ -2,8 +2,7 @@
 
 ghost use Rattle.std.specs.Prelude.{◌≡◌, ◌≢◌, ◌+◌, ◌<◌, Err, IfOk, IfSome, OnErr, OnOk};
 ghost use Rattle.std.specs.Io.KnownBytes.{Appends, Keeps};
-ghost use Rattle.dine_script.specs.Machines.{scripts};
-ghost use Rattle.dine_script.specs.Script.{opening as session_at_first, output_lines, script_end, script_output};
+ghost use Rattle.dine_script.specs.Script.{at_first, output_lines, script_end, script_output, scripts};
 ghost use Rattle.dine_streams.specs.Inputs.{IsReadWhole};
 ghost use Rattle.dine_streams.specs.Written.{AppendsLinesOf, AppendsPartOf};
 ghost use Rattle.dine_script.specs.Streams.{IsMarked, IsMarkedOrLong};
@@ -30,7 +29,7 @@ struct Script {
 }
 
 impl Model for Script {
-    ghost use Rattle.dine_script.specs.Machines.{Script as Standing};
+    ghost use Rattle.dine_script.specs.Script.{Script as Standing};
 
     ghost Value = { Standing };
 
@@ -44,8 +43,7 @@ impl Model for Script {
 impl Script {
     // A script of which no line was carried out.
     fn new(alloc: Global, limits: Limits, print: Print, seed: Seed) -> Result<Script, AllocError>
-        ensures { IfOk result (λ script. script ≡
-            record { session = session_at_first limits; print = print; faults = 0 }) }
+        ensures { IfOk result (λ script. script ≡ at_first limits print) }
     {
         Ok(Script {
             session: Session::new(alloc, limits, seed)?,

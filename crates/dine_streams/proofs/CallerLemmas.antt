@@ -21,5 +21,7 @@ pub use Rattle.dine_streams.proofs.Feeds.{ended-left, ended-whatever}
 pub use Rattle.dine_streams.proofs.Outcomes.{on_ok, ran-ends, ran-gave_up, ran-well}
 -- what holds of bytes that are known
 pub use Rattle.dine_streams.proofs.Printing.{for_all_known, of_known}
+-- what lines print, and where they leave a command, one after the other
+pub use Rattle.dine_streams.proofs.Printing.{left_by-append, printed_from-append}
 -- a line at the front of a text that is taken
-pub use Rattle.dine_streams.proofs.Takings.{takes-line}
+pub use Rattle.dine_streams.proofs.Takings.{printed-then, takes-line}

@@ -3,7 +3,7 @@ use Rattle.std.specs.Io.KnownBytes.{Appends}
 use Rattle.dine_streams.specs.Ending.{end_of}
 use Rattle.dine_streams.specs.Written.{AppendsLinesOf, AppendsPartOf}
 use Rattle.dine_streams.proofs.CallerLemmas.{of_known}
-use Rattle.dine_script.specs.Machines.{Script}
+use Rattle.dine_script.specs.Script.{Script}
 use Rattle.dine_script.proofs.Scripts.{end-told, lines-known, text-known}
 use Rattle.dine_script.proofs.script.run_script.Goals as goal
 

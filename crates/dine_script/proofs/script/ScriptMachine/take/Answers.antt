@@ -1,6 +1,6 @@
 use Rattle.std.proofs.Common.{◌≡◌, ◌+◌, rules, subst, sym}
 use Rattle.dine_streams.specs.Machines.{Takes}
-use Rattle.dine_script.specs.Machines.{Script, scripts}
+use Rattle.dine_script.specs.Script.{Script, scripts}
 use Rattle.dine_script.specs.Printed.{TakesLines}
 use Rattle.dine_script.proofs.Scripts.{script-takes}
 use Rattle.dine_script.proofs.script.ScriptMachine.take.Goals as goal
