@@ -1,5 +1,5 @@
 -- Lines at the front of a text that are carried out.
-use Rattle.std.proofs.Common.{◌≡◌, ℕ, ◌+◌, ◌-◌, ◌<◌, ◌≤◌, nat_lt, Bool, List, [], ◌∷◌, ◌++◌, length, drop, map, Option, Result, inl, inr, refl, sym, ap, ◌∙◌, subst, append_assoc, append-nil, arith, if◌then◌else◌}
+use Rattle.std.proofs.Common.{◌≡◌, ℕ, ◌-◌, ◌<◌, ◌≤◌, nat_lt, Bool, true, false, ◌||◌, List, [], ◌∷◌, ◌++◌, length, drop, map, Option, Result, inl, inr, refl, sym, ap, ◌∙◌, subst, append_assoc, append-nil, arith}
 use Rattle.std.proofs.lemmas.Bool.{cases_Bool}
 use Rattle.std.proofs.lemmas.List.{drop-drop, map-append}
 use Rattle.dine_words.specs.Texts.{text_of_lines}
@@ -24,13 +24,22 @@ seen-reading names line = elim (cases_Bool (nat_lt 4096 (length line))) [
 
 -- ---- lines that were carried out
 
+-- lines with no fault before others, and those of some before others
+no_more : (a : Bool) → (a || false) ≡ a
+no_more true = refl
+no_more false = refl
+
+together : (a b c : Bool) → (a || (b || c)) ≡ ((a || b) || c)
+together true b c = refl
+together false b c = refl
+
 -- none was yet
-pub takes-none : (print : Print) (s : Session) (lines : List (List ℕ)) (before : List ℕ) → TakesSome print s s lines lines before before 0
+pub takes-none : (print : Print) (s : Session) (lines : List (List ℕ)) (before : List ℕ) → TakesSome print s s lines lines before before false
 takes-none print s lines before = record {
   done = [];
   cut = refl;
-  leaves = λ n. ap (standing print s) (let none : n + 0 ≡ n = omega arith in none);
-  output = λ n. sym (append-nil before);
+  leaves = λ had. ap (standing print s) (no_more had);
+  output = λ had. sym (append-nil before);
 }
 
 -- what is left of what is left
@@ -42,7 +51,7 @@ left-on text rest more is short next shorter =
     ∙ ap (λ n. drop n text) (omega (arith, short, shorter))
 
 -- the first line of a text was
-pub takes-one : (print : Print) (s t : Session) (text rest before after : List ℕ) (fault : Bool) → TakesFirst print s t text rest before after fault → TakesLines print s t text rest before after (if fault then 1 else 0)
+pub takes-one : (print : Print) (s t : Session) (text rest before after : List ℕ) (fault : Bool) → TakesFirst print s t text rest before after fault → TakesLines print s t text rest before after fault
 takes-one print s t text rest before after fault first =
     let shorter = first.shorter in
     let reading = reading_of s.names first.line in
@@ -51,11 +60,11 @@ takes-one print s t text rest before after fault first =
       takes = record {
         done = first.line ∷ [];
         cut = first.first;
-        leaves = λ n.
-            ap (λ u. standing print u (n + (if fault then 1 else 0))) first.stands
-            ∙ ap (λ b. standing print (after_reading s reading) (n + (if b then 1 else 0))) first.told
-            ∙ ap (script_after (standing print s n)) (sym seen);
-        output = λ n. first.output ∙ ap (λ l. before ++ text_of_lines l) (sym (append-nil (printed_of print s reading)) ∙ ap (λ r. printed_of print s r ++ []) (sym seen));
+        leaves = λ had.
+            ap (λ u. standing print u (had || fault)) first.stands
+            ∙ ap (λ b. standing print (after_reading s reading) (had || b)) first.told
+            ∙ ap (script_after (standing print s had)) (sym seen);
+        output = λ had. first.output ∙ ap (λ l. before ++ text_of_lines l) (sym (append-nil (printed_of print s reading)) ∙ ap (λ r. printed_of print s r ++ []) (sym seen));
       };
       left = first.left;
       short = omega (arith, shorter);
@@ -63,23 +72,18 @@ takes-one print s t text rest before after fault first =
     }
 
 -- what is left of a text is told by its length
-pub takes-up-to : (print : Print) (s t : Session) (text rest before after : List ℕ) (faults : ℕ) → TakesLines print s t text rest before after faults → TakesUpTo print s t text (length rest) before after faults
-takes-up-to print s t text rest before after faults lines = record {
+pub takes-up-to : (print : Print) (s t : Session) (text rest before after : List ℕ) (fault : Bool) → TakesLines print s t text rest before after fault → TakesUpTo print s t text (length rest) before after fault
+takes-up-to print s t text rest before after fault lines = record {
   within = lines.short;
-  taken = subst (λ left. TakesLines print s t text left before after faults) lines.left lines;
+  taken = subst (λ left. TakesLines print s t text left before after fault) lines.left lines;
 }
 
--- and its fault is told
-pub takes-told : (print : Print) (s t : Session) (text rest before after : List ℕ) (fault told : Bool) → fault ≡ told → TakesFirst print s t text rest before after fault → TakesUpTo print s t text (length rest) before after (if told then 1 else 0)
-takes-told print s t text rest before after fault told same first =
-    subst (λ b. TakesUpTo print s t text (length rest) before after (if b then 1 else 0)) same
-    (takes-up-to print s t text rest before after (if fault then 1 else 0) (takes-one print s t text rest before after fault first))
-
--- it asks for a command, or has a fault
-pub takes-read : (print : Print) (s t : Session) (text rest before after : List ℕ) (reading : Result Command LineFault) → ReadsFirst s.names text rest reading → t ≡ after_reading s (some_command reading) → after ≡ before ++ text_of_lines (printed_of print s (some_command reading)) → TakesUpTo print s t text (length rest) before after (if is_fault (some_command reading) then 1 else 0)
+-- one line was, which asks for a command or has a fault
+pub takes-read : (print : Print) (s t : Session) (text rest before after : List ℕ) (reading : Result Command LineFault) → ReadsFirst s.names text rest reading → t ≡ after_reading s (some_command reading) → after ≡ before ++ text_of_lines (printed_of print s (some_command reading)) → TakesUpTo print s t text (length rest) before after (is_fault (some_command reading))
 takes-read print s t text rest before after reading first stands output =
-    takes-told print s t text rest before after (is_fault (some_command reading)) (is_fault (some_command reading)) refl
-    record {
+    let fault = is_fault (some_command reading) in
+    takes-up-to print s t text rest before after fault
+    (takes-one print s t text rest before after fault record {
       line = first.line;
       first = first.first;
       shorter = first.shorter;
@@ -87,14 +91,11 @@ takes-read print s t text rest before after reading first stands output =
       told = ap is_fault (sym first.read);
       stands = stands ∙ ap (after_reading s) (sym first.read);
       output = output ∙ ap (λ r. before ++ text_of_lines (printed_of print s r)) (sym first.read);
-    }
+    })
 
-together : (a b c : ℕ) → a + (b + c) ≡ a + b + c
-together a b c = omega arith
-
-module _ (print : Print) (s t u : Session) (text now rest before held after : List ℕ) (faults one : ℕ) (a : TakesSome print s t (lines_of text) (lines_of now) before held faults) (left : now ≡ drop (length text - length now) text) (short : length now ≤ length text) (lines : TakesLines print t u now rest held after one) where
+module _ (print : Print) (s t u : Session) (text now rest before held after : List ℕ) (fault one : Bool) (a : TakesSome print s t (lines_of text) (lines_of now) before held fault) (left : now ≡ drop (length text - length now) text) (short : length now ≤ length text) (lines : TakesLines print t u now rest held after one) where
   -- and then lines at the front of what was left
-  takes-on : TakesSome print s u (lines_of text) (lines_of rest) before after (faults + one)
+  takes-on : TakesSome print s u (lines_of text) (lines_of rest) before after (fault || one)
   takes-on =
       let b = lines.takes in
       let xs : List (Option (List ℕ)) = map seen_of a.done in
@@ -103,19 +104,19 @@ module _ (print : Print) (s t u : Session) (text now rest before held after : Li
       record {
         done = a.done ++ b.done;
         cut = a.cut ∙ ap (λ l. a.done ++ l) b.cut ∙ sym (append_assoc a.done b.done (lines_of rest));
-        leaves = λ n.
-            ap (standing print u) (together n faults one)
-            ∙ b.leaves (n + faults)
-            ∙ ap (λ v. left_by scripts v ys) (a.leaves n)
-            ∙ sym (left_by-append scripts (standing print s n) xs ys)
-            ∙ ap (left_by scripts (standing print s n)) (sym both);
-        output = λ n.
-            printed-then scripts (standing print s n) (standing print t (n + faults)) xs ys before held after (a.leaves n) (a.output n) (b.output (n + faults))
-            ∙ ap (λ l. before ++ text_of_lines (printed_from scripts (standing print s n) l)) (sym both);
+        leaves = λ had.
+            ap (standing print u) (together had fault one)
+            ∙ b.leaves (had || fault)
+            ∙ ap (λ v. left_by scripts v ys) (a.leaves had)
+            ∙ sym (left_by-append scripts (standing print s had) xs ys)
+            ∙ ap (left_by scripts (standing print s had)) (sym both);
+        output = λ had.
+            printed-then scripts (standing print s had) (standing print t (had || fault)) xs ys before held after (a.leaves had) (a.output had) (b.output (had || fault))
+            ∙ ap (λ l. before ++ text_of_lines (printed_from scripts (standing print s had) l)) (sym both);
       }
 
   -- lines more of a text were
-  pub takes-more : 0 < length now → TakesLines print s u text rest before after (faults + one)
+  pub takes-more : 0 < length now → TakesLines print s u text rest before after (fault || one)
   takes-more some_now =
       let shorter = lines.some some_now in
       record {

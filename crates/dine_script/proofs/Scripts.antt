@@ -1,5 +1,5 @@
 -- A script as a command: what it prints for an input, and where that leaves it.
-use Rattle.std.proofs.Common.{◌≡◌, ℕ, ◌==◌, ◌+◌, ◌-◌, nat_lt, if◌then◌else◌, List, [], ◌∷◌, ◌++◌, length, map, take, Option, IfSome, inl, inr, refl, sym, ap, ◌∙◌, subst, append-nil}
+use Rattle.std.proofs.Common.{◌≡◌, ℕ, ◌==◌, ◌-◌, Bool, false, ◌||◌, List, [], ◌∷◌, ◌++◌, length, map, take, Option, IfSome, inl, inr, refl, sym, ap, ◌∙◌, subst, append-nil}
 use Rattle.std.proofs.lemmas.Bool.{cases_Bool}
 use Rattle.std.proofs.lemmas.List.{map-append, take-append-drop}
 use Rattle.dine_lines.specs.Lines.{lines_of, onto_first}
@@ -59,13 +59,13 @@ printed-lines s input =
     last t (x ∷ xs) = ap (prints_seen t) (seen-kept (x ∷ xs)) ∙ sym (append-nil (prints_seen t (seen_of (x ∷ xs))))
 
 -- in a journal, the entries of the lines
-printed-journal : (s : Session) (n : ℕ) (lines : List (List ℕ)) → printed_from scripts (standing Journal s n) (map seen_of lines) ≡ map entry_text (entries_from s lines)
-printed-journal s n [] = refl
-printed-journal s n (line ∷ lines) =
+printed-journal : (s : Session) (had : Bool) (lines : List (List ℕ)) → printed_from scripts (standing Journal s had) (map seen_of lines) ≡ map entry_text (entries_from s lines)
+printed-journal s had [] = refl
+printed-journal s had (line ∷ lines) =
     let reading = reading_of s.names line in
     let next = after_reading s reading in
-    let more = n + (if is_fault reading then 1 else 0) in
-    ap (λ r. printed_of Journal s r ++ printed_from scripts (script_after (standing Journal s n) r) (map seen_of lines)) (seen-reading s.names line)
+    let more = had || is_fault reading in
+    ap (λ r. printed_of Journal s r ++ printed_from scripts (script_after (standing Journal s had) r) (map seen_of lines)) (seen-reading s.names line)
     ∙ ap (λ l. l ++ printed_from scripts (standing Journal next more) (map seen_of lines)) (printed_of-journal s reading)
     ∙ ap (λ l. map entry_text (entries_of s reading) ++ l) (printed-journal next more lines)
     ∙ sym (map-append entry_text (entries_of s reading) (entries_from next lines))
@@ -74,7 +74,7 @@ printed-journal s n (line ∷ lines) =
 output-printed : (limits : Limits) (print : Print) (input : List ℕ) → opening_lines print limits ++ printed_for scripts (at_first limits print) input ≡ output_lines print limits input
 output-printed limits Replies input = refl
 output-printed limits Journal input =
-    ap (λ l. header_text written_version limits ∷ l) (printed-lines (at_first limits Journal) input ∙ printed-journal (opening limits) 0 (lines_of input))
+    ap (λ l. header_text written_version limits ∷ l) (printed-lines (at_first limits Journal) input ∙ printed-journal (opening limits) false (lines_of input))
 
 -- and their text is the output
 text-printed : (limits : Limits) (print : Print) (input : List ℕ) → text_of_lines (opening_lines print limits ++ printed_for scripts (at_first limits print) input) ≡ script_output print limits input
@@ -91,25 +91,25 @@ lines-known limits print input Wrote = of_known input _ _ (λ bytes. subst Wrote
 pub text-known : (limits : Limits) (print : Print) (input : Option (List ℕ)) (Wrote : List ℕ → Type 0) → IfSome input (λ bytes. Wrote (text_of_lines (opening_lines print limits ++ printed_for scripts (at_first limits print) bytes))) → IfSome input (λ bytes. Wrote (script_output print limits bytes))
 text-known limits print input Wrote = of_known input _ _ (λ bytes. subst Wrote (text-printed limits print bytes))
 
--- lines leave as many faults, whatever is printed
-faults-left : (print other : Print) (s : Session) (n : ℕ) (lines : List (Option (List ℕ))) (begun : List ℕ) → (after_unended (left_by scripts (standing print s n) lines) begun).faults ≡ (after_unended (left_by scripts (standing other s n) lines) begun).faults
-faults-left print other s n [] [] = refl
-faults-left print other s n [] (x ∷ xs) = refl
-faults-left print other s n (line ∷ lines) begun =
+-- whatever is printed, lines have a fault or none has
+faults-left : (print other : Print) (s : Session) (had : Bool) (lines : List (Option (List ℕ))) (begun : List ℕ) → (after_unended (left_by scripts (standing print s had) lines) begun).has_fault ≡ (after_unended (left_by scripts (standing other s had) lines) begun).has_fault
+faults-left print other s had [] [] = refl
+faults-left print other s had [] (x ∷ xs) = refl
+faults-left print other s had (line ∷ lines) begun =
     let reading = reading_seen s.names line in
-    faults-left print other (after_reading s reading) (n + (if is_fault reading then 1 else 0)) lines begun
+    faults-left print other (after_reading s reading) (had || is_fault reading) lines begun
 
 -- so a script ends as they tell
-pub end-told : (limits : Limits) (print : Print) (input : List ℕ) (s : Script) → s ≡ standing_after scripts (at_first limits print) input → end_of (nat_lt 0 s.faults) ≡ script_end limits input
+pub end-told : (limits : Limits) (print : Print) (input : List ℕ) (s : Script) → s ≡ standing_after scripts (at_first limits print) input → end_of s.has_fault ≡ script_end limits input
 end-told limits print input s is =
-    ap (λ (t : Script). end_of (nat_lt 0 t.faults)) is
-    ∙ ap (λ n. end_of (nat_lt 0 n)) (faults-left print Replies (opening limits) 0 (seen_lines [] input) (kept_of (begun_line [] input)))
+    ap (λ (t : Script). end_of t.has_fault) is
+    ∙ ap end_of (faults-left print Replies (opening limits) false (seen_lines [] input) (kept_of (begun_line [] input)))
 
 -- ---- lines at the front of a text
 
 -- those that were carried out were taken, whatever their faults
-pub script-takes : (s : Script) (t : Session) (text rest before after : List ℕ) (faults : ℕ) → begun_line [] text ≡ [] → TakesLines s.print s.session t text rest before after faults → Takes scripts s (record s { session = t; faults = s.faults + faults }) text rest before after
-script-takes s t text rest before after faults whole lines =
+pub script-takes : (s : Script) (t : Session) (text rest before after : List ℕ) (fault : Bool) → begun_line [] text ≡ [] → TakesLines s.print s.session t text rest before after fault → Takes scripts s (record s { session = t; has_fault = s.has_fault || fault }) text rest before after
+script-takes s t text rest before after fault whole lines =
     let done = lines.takes.done in
     let gone : ℕ = length text - length rest in
     let whole_rest : begun_line [] rest ≡ [] = ap (begun_line []) lines.left ∙ ended-left gone text whole in
@@ -123,6 +123,6 @@ script-takes s t text rest before after faults whole lines =
         seen = ended text whole ∙ ap (map seen_of) lines.takes.cut ∙ map-append seen_of done (lines_of rest) ∙ ap (λ l. map seen_of done ++ l) (sym (ended rest whole_rest));
         begun = whole_rest ∙ sym whole;
       };
-      leaves = lines.takes.leaves s.faults;
-      printed = lines.takes.output s.faults;
+      leaves = lines.takes.leaves s.has_fault;
+      printed = lines.takes.output s.has_fault;
     }

@@ -1,5 +1,5 @@
 -- What is printed of a script's lines, one after the other, and the history of the calls that they make.
-use Rattle.std.specs.Prelude.{◌+◌, if◌then◌else◌, ℕ, nat_lt, Bool, true, false, List, map, [], ◌∷◌, ◌++◌, codes, Option, Some, None, Result, Ok, Err}
+use Rattle.std.specs.Prelude.{ℕ, Bool, true, false, ◌||◌, List, map, [], ◌∷◌, ◌++◌, codes, Option, Some, None, Result, Ok, Err}
 use Rattle.dine_words.specs.declared.call.Call.{Call}
 use Rattle.dine_words.specs.declared.call.Call.TheVariants as call
 use Rattle.dine_words.specs.declared.call.Reply.{Reply}
@@ -98,11 +98,11 @@ is_fault (Err reason) = true
 
 -- ---- a script as a command
 
--- a script that is run: where it stands, what is printed of it, and how many of its lines have a fault
+-- a script that is run: where it stands, what is printed of it, and whether a line had a fault
 pub record Script : Type 0 where
   pub session : Session
   pub print : Print
-  pub faults : ℕ
+  pub has_fault : Bool
 
 -- what a line asks for, as it is seen
 abbrev pub reading_seen : Names → Option (List ℕ) → Result (Option Command) LineFault
@@ -114,7 +114,7 @@ abbrev pub script_after : Script → Result (Option Command) LineFault → Scrip
 script_after s reading =
     record s {
       session = after_reading s.session reading;
-      faults = s.faults + (if is_fault reading then 1 else 0);
+      has_fault = s.has_fault || is_fault reading;
     }
 
 -- a line, as it is seen: what is printed of it, and where it leaves the script
@@ -151,7 +151,7 @@ scripts =
 
 -- a script of which no line was carried out
 abbrev pub at_first : Limits → Print → Script
-at_first limits print = record { session = opening limits; print = print; faults = 0 }
+at_first limits print = record { session = opening limits; print = print; has_fault = false }
 
 -- ---- the calls that are made
 
@@ -201,4 +201,4 @@ script_output Journal limits input = journal_text limits (script_history limits 
 
 -- how a script ends, whatever it prints: with a fault where a line has one. A refusal is no fault
 abbrev pub script_end : Limits → List ℕ → Ended
-script_end limits input = end_of (nat_lt 0 (standing_after scripts (at_first limits Replies) input).faults)
+script_end limits input = end_of (standing_after scripts (at_first limits Replies) input).has_fault

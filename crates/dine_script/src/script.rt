@@ -1,6 +1,6 @@
 //! A script as a command over its lines, and a run of it.
 
-ghost use Rattle.std.specs.Prelude.{◌≡◌, ◌≢◌, ◌+◌, ◌<◌, Err, IfOk, IfSome, OnErr, OnOk};
+ghost use Rattle.std.specs.Prelude.{◌≡◌, ◌≢◌, ◌<◌, ◌||◌, Err, IfOk, IfSome, OnErr, OnOk};
 ghost use Rattle.std.specs.Io.KnownBytes.{Appends, Keeps};
 ghost use Rattle.dine_script.specs.Script.{at_first, output_lines, script_end, script_output, scripts};
 ghost use Rattle.dine_streams.specs.Inputs.{IsReadWhole};
@@ -23,8 +23,8 @@ use std::marker::Model;
 struct Script {
     session: Session,
     print: Print,
-    // How many lines have a fault.
-    faults: usize,
+    // Whether a line had a fault.
+    has_fault: bool,
     remarks: FaultRemarks,
 }
 
@@ -36,7 +36,7 @@ impl Model for Script {
     ghost view = { λ script. record {
       session = script.session;
       print = script.print;
-      faults = script.faults;
+      has_fault = script.has_fault;
     } };
 }
 
@@ -48,34 +48,20 @@ impl Script {
         Ok(Script {
             session: Session::new(alloc, limits, seed)?,
             print,
-            faults: 0,
+            has_fault: false,
             remarks: FaultRemarks::new(alloc),
         })
     }
 
-    // Counts so many faults of the first line of a text, which was carried out last, and notes what is wrong with it. An
-    // error is that no more can be counted.
+    // Notes what is wrong with the first line of a text, which was carried out last, where it has a fault.
     #[inline(always)]
-    fn count_faults(&mut self, text: &[u8], faulty: usize) -> Result<(), AllocError>
-        ensures { OnOk result (self.new ≡ record self.old { faults = self.old.faults + faulty }) }
+    fn look(&mut self, text: &[u8], fault: bool)
+        ensures { self.new ≡ record self.old { has_fault = self.old.has_fault || fault } }
     {
-        if faulty == 0 {
-            return Ok(());
+        if fault {
+            self.has_fault = true;
+            self.remarks.note(text, &self.session);
         }
-        self.note_faults(text, faulty)
-    }
-
-    // As `count_faults`, of some.
-    #[inline(never)]
-    fn note_faults(&mut self, text: &[u8], faulty: usize) -> Result<(), AllocError>
-        ensures { OnOk result (self.new ≡ record self.old { faults = self.old.faults + faulty }) }
-    {
-        let Some(faults) = self.faults.checked_add(faulty) else {
-            return Err(AllocError);
-        };
-        self.faults = faults;
-        self.remarks.note(text, &self.session);
-        Ok(())
     }
 }
 
@@ -91,8 +77,8 @@ impl Machine for Script {
         if self.session.is_worn_out() {
             return Err(AllocError);
         }
-        let (faulty, rest) = self.session.take_first(text, self.print, out)?;
-        self.count_faults(text, faulty)?;
+        let (fault, rest) = self.session.take_first(text, self.print, out)?;
+        self.look(text, fault);
         Ok(rest)
     }
 
@@ -104,8 +90,9 @@ impl Machine for Script {
         if self.session.is_worn_out() {
             return Err(AllocError);
         }
-        let faulty = self.session.take_unended(begun, self.print, out)?;
-        self.count_faults(begun, usize::from(faulty))
+        let fault = self.session.take_unended(begun, self.print, out)?;
+        self.look(begun, fault);
+        Ok(())
     }
 }
 
@@ -151,6 +138,6 @@ pub fn run_script<R: Source, W: Sink, L: Listener>(
         return Err(fault_without_memory(reader, MAX_INPUT).into());
     };
     run_once_read(alloc, &mut script, reader, writer)?;
-    script.remarks.tell(script.faults, listener);
-    Ok(end_of(script.faults > 0))
+    script.remarks.tell(listener);
+    Ok(end_of(script.has_fault))
 }

@@ -33,8 +33,8 @@ pub type Answered<T> = Result<T, AllocError>;
 /// What is printed of a command was appended, unless memory ran out: then nothing was.
 pub type Printed = Answered<()>;
 
-/// How many of the lines that were carried out have a fault, none or one, and the text after them.
-pub type Taken<'a> = Answered<(usize, &'a [u8])>;
+/// Whether one of the lines that were carried out has a fault, and the text after them.
+pub type Taken<'a> = Answered<(bool, &'a [u8])>;
 
 /// Where a script stands: the arbiter of its calls, and the names that it has bound. It keeps no call.
 #[derive(Drop)]
@@ -88,8 +88,8 @@ impl Session {
         u64::MAX <= self.arbiter.clock()
     }
 
-    /// Carries out the first line of a text, appends what is printed of it to `out`, and answers how many lines have a
-    /// fault, none or this one, and the text after the line. Where it asks for a state, those that follow it and ask for one
+    /// Carries out the first line of a text, appends what is printed of it to `out`, and answers whether it has a
+    /// fault, and the text after the line. Where it asks for a state, those that follow it and ask for one
     /// are carried out with it. On `Err` nothing was appended.
     ///
     /// The steps of meals and the calls about two tasks are compiled into the loop over lines, and take no memory there. So
@@ -104,11 +104,11 @@ impl Session {
         if let Some(step) = cut_step(text, &self.names) {
             self.make_step(step.call, step.task, print, out)?;
             self.count_line();
-            return Ok((0, step.rest));
+            return Ok((false, step.rest));
         }
         if let Some(rest) = after_comment(text) {
             self.count_line();
-            return Ok((0, rest));
+            return Ok((false, rest));
         }
         self.take_line(text, print, out)
     }
@@ -124,15 +124,15 @@ impl Session {
         if let Some(pair) = cut_pair(text, &self.names) {
             self.make_pair(pair.call, pair.first, pair.second, print, out)?;
             self.count_line();
-            return Ok((0, pair.rest));
+            return Ok((false, pair.rest));
         }
         let carried = match text {
             [b's', b't', ..] => self.take_states(text, print, out),
             _ => self.take_rarer(text, print, out),
         };
         match carried {
-            Carried::Good(left) => Ok((0, &text[text.len() - left..])),
-            Carried::Faulty(left) => Ok((1, &text[text.len() - left..])),
+            Carried::Good(left) => Ok((false, &text[text.len() - left..])),
+            Carried::Faulty(left) => Ok((true, &text[text.len() - left..])),
             Carried::NoMemory => Err(AllocError),
         }
     }

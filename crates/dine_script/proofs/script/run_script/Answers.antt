@@ -1,4 +1,4 @@
-use Rattle.std.proofs.Common.{rules, ap, nat_lt, ◌∙◌}
+use Rattle.std.proofs.Common.{rules, ap, ◌∙◌}
 use Rattle.std.specs.Io.KnownBytes.{Appends}
 use Rattle.dine_streams.specs.Ending.{end_of}
 use Rattle.dine_streams.specs.Written.{AppendsLinesOf, AppendsPartOf}
@@ -28,6 +28,6 @@ returns-clause-output g c =
 pub returns-clause-ended : goal.returns-clause-ended
 returns-clause-ended g c =
     let ran = rw c.in-Ok.ensures at c.in_ok-run_once_read.ensures in
-    let counted = ap (λ (s : Script). end_of (nat_lt 0 s.faults)) c.script.view_is in
+    let counted = ap (λ (s : Script). end_of s.has_fault) c.script.view_is in
     of_known (g.R.Source.remaining c.args.reader.now) _ _
     (λ bytes is. c.end_of.ensures ∙ counted ∙ end-told c.args.limits c.args.print bytes c.run_once_read.new.machine is) ran.ended

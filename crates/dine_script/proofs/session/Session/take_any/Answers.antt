@@ -1,4 +1,4 @@
-use Rattle.std.proofs.Common.{length, subst, sym}
+use Rattle.std.proofs.Common.{false, length, subst, sym}
 use Rattle.dine_script.specs.Printed.{TakesUpTo}
 use Rattle.dine_script.proofs.Fronts.{takes-up-to}
 use Rattle.dine_script.proofs.UsualLines.{takes-comment}
@@ -10,5 +10,5 @@ returns-in-Some c =
     let text = c.args.text.now in
     let rest = c.in-Some.rest.now in
     let out = c.args.out.now.items in
-    subst (λ t. TakesUpTo c.args.print s t text (length rest) out out 0) (sym c.count_line.ensures)
-    (takes-up-to c.args.print s s text rest out out 0 (takes-comment c.args.print s text rest out c.in-Some.ensures))
+    subst (λ t. TakesUpTo c.args.print s t text (length rest) out out false) (sym c.count_line.ensures)
+    (takes-up-to c.args.print s s text rest out out false (takes-comment c.args.print s text rest out c.in-Some.ensures))

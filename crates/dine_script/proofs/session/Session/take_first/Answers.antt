@@ -1,4 +1,4 @@
-use Rattle.std.proofs.Common.{◌∙◌, subst, sym}
+use Rattle.std.proofs.Common.{false, ◌∙◌, subst, sym}
 use Rattle.dine_lines.specs.Usual as usual
 use Rattle.dine_lines.specs.UsualLines.{BeginsUsual}
 use Rattle.dine_script.proofs.UsualLines.{takes-comment, takes-usual}
@@ -14,5 +14,5 @@ returns-in-Some c =
 
 pub returns-in-Some-after_comment : goal.returns-in-Some-after_comment
 returns-in-Some-after_comment c =
-    subst (λ t. TakesLines c.args.print c.args.self.now t c.args.text.now c.in-Some-after_comment.rest.now c.args.out.now.items c.args.out.now.items 0) (sym c.count_line-in-Some-after_comment.ensures)
+    subst (λ t. TakesLines c.args.print c.args.self.now t c.args.text.now c.in-Some-after_comment.rest.now c.args.out.now.items c.args.out.now.items false) (sym c.count_line-in-Some-after_comment.ensures)
     (takes-comment c.args.print c.args.self.now c.args.text.now c.in-Some-after_comment.rest.now c.args.out.now.items c.in-Some-after_comment.ensures)
