@@ -90,7 +90,7 @@ impl Machine for Script {
         if self.session.is_worn_out() {
             return Err(AllocError);
         }
-        let fault = self.session.take_unended(begun, self.print, out)?;
+        let fault = self.session.take_words(begun, self.print, out)?;
         self.look(begun, fault);
         Ok(())
     }

@@ -352,33 +352,11 @@ impl Session {
         let Some((line, rest)) = next_line(text) else {
             unreachable!()
         };
-        match self.take_other(line, print, out) {
-            Ok(has_fault) => {
-                self.count_line();
-                if has_fault {
-                    Carried::Faulty(rest.len())
-                } else {
-                    Carried::Good(rest.len())
-                }
-            }
+        match self.take_words(line, print, out) {
+            Ok(true) => Carried::Faulty(rest.len()),
+            Ok(false) => Carried::Good(rest.len()),
             Err(_) => Carried::NoMemory,
         }
-    }
-
-    /// Carries out a line without its line feed, and answers whether it has a fault. On `Err` nothing was appended.
-    pub fn take_unended(&mut self, line: &[u8], print: Print, out: &mut Vec<u8>) -> Answered<bool>
-        requires { self.old.table.clock < 2 ^ 64 - 1 }
-        ensures fault { IfOk result (λ fault.
-            fault ≡ is_fault (reading_of self.old.names line.now)) }
-        ensures after { OnOk result
-            (self.new ≡ after_reading self.old (reading_of self.old.names line.now)) }
-        ensures output { OnOk result (out.new.items ≡ out.old.items ++ text_of_lines
-            (printed_of print self.old (reading_of self.old.names line.now))) }
-        ensures err { OnErr result (out.new.items ≡ out.old.items) }
-    {
-        let has_fault = self.take_other(line, print, out)?;
-        self.count_line();
-        Ok(has_fault)
     }
 
     // Tells the fault of the first line of a text, behind which this rest is left. The text is there for the contract alone.
@@ -441,8 +419,9 @@ impl Session {
         }
     }
 
-    // Carries out a line by its words.
-    fn take_other(&mut self, line: &[u8], print: Print, out: &mut Vec<u8>) -> Answered<bool>
+    /// Carries out a line without its line feed, by its words, and answers whether it has a fault. On `Err` nothing was
+    /// appended.
+    pub fn take_words(&mut self, line: &[u8], print: Print, out: &mut Vec<u8>) -> Answered<bool>
         requires { self.old.table.clock < 2 ^ 64 - 1 }
         ensures fault { IfOk result (λ fault.
             fault ≡ is_fault (reading_of self.old.names line.now)) }
@@ -452,6 +431,7 @@ impl Session {
             (printed_of print self.old (reading_of self.old.names line.now))) }
         ensures err { OnErr result (out.new.items ≡ out.old.items) }
     {
+        self.count_line();
         match read_line(&self.names, line) {
             Ok(None) => Ok(false),
             Ok(Some(command)) => {
