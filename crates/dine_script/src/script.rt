@@ -77,7 +77,7 @@ impl Machine for Script {
         if self.session.is_worn_out() {
             return Err(AllocError);
         }
-        let (fault, rest) = self.session.take_first(text, self.print, out)?;
+        let (fault, rest) = self.session.take_first(text, &self.print, out)?;
         self.look(text, fault);
         Ok(rest)
     }
@@ -90,7 +90,7 @@ impl Machine for Script {
         if self.session.is_worn_out() {
             return Err(AllocError);
         }
-        let fault = self.session.take_words(begun, self.print, out)?;
+        let fault = self.session.take_words(begun, &self.print, out)?;
         self.look(begun, fault);
         Ok(())
     }

@@ -96,9 +96,9 @@ impl Session {
     /// are comments, which are passed over. All other lines stand apart from it. The clock is below `u64::MAX`: it counts
     /// the joins and finishes that were accepted.
     #[inline(always)]
-    pub fn take_first<'a>(&mut self, text: &'a [u8], print: Print, out: &mut Vec<u8>) -> Taken<'a>
+    pub fn take_first<'a>(&mut self, text: &'a [u8], print: &Print, out: &mut Vec<u8>) -> Taken<'a>
         requires { CanTakeFirst self.old text.now }
-        ensures { TakesSomeOrFails print self.old self.new
+        ensures { TakesSomeOrFails print.now self.old self.new
             text.now out.old.items out.new.items result }
     {
         if let Some(step) = cut_step(text, &self.names) {
@@ -116,9 +116,9 @@ impl Session {
     /// As [`Session::take_first`], but a step of a meal and a comment aren't looked for first: they are found among all
     /// others.
     #[inline(always)]
-    pub fn take_line<'a>(&mut self, text: &'a [u8], print: Print, out: &mut Vec<u8>) -> Taken<'a>
+    pub fn take_line<'a>(&mut self, text: &'a [u8], print: &Print, out: &mut Vec<u8>) -> Taken<'a>
         requires { CanTakeFirst self.old text.now }
-        ensures { TakesSomeOrFails print self.old self.new
+        ensures { TakesSomeOrFails print.now self.old self.new
             text.now out.old.items out.new.items result }
     {
         if let Some(pair) = cut_pair(text, &self.names) {
@@ -148,9 +148,9 @@ impl Session {
     // As `take_first`, for one line that makes a call about two tasks, where hints don't lead to both names. Any other is
     // carried out by `take_any`.
     #[inline(never)]
-    fn take_pair(&mut self, text: &[u8], print: Print, out: &mut Vec<u8>) -> Carried
+    fn take_pair(&mut self, text: &[u8], print: &Print, out: &mut Vec<u8>) -> Carried
         requires { CanTakeFirst self.old text.now }
-        ensures { TakesSomeOrNoMemory print self.old self.new
+        ensures { TakesSomeOrNoMemory print.now self.old self.new
             text.now out.old.items out.new.items result }
     {
         let Some(pair) = find_pair(text, &self.names) else {
@@ -175,9 +175,9 @@ impl Session {
     // Such questions often come one after the other, and a loop that does nothing else lets the processor look for several
     // names at once.
     #[inline(never)]
-    fn take_states(&mut self, text: &[u8], print: Print, out: &mut Vec<u8>) -> Carried
+    fn take_states(&mut self, text: &[u8], print: &Print, out: &mut Vec<u8>) -> Carried
         requires { CanTakeFirst self.old text.now }
-        ensures { TakesSomeOrNoMemory print self.old self.new
+        ensures { TakesSomeOrNoMemory print.now self.old self.new
             text.now out.old.items out.new.items result }
     {
         let stop = text.len().saturating_sub(STATES_AT_ONCE);
@@ -201,9 +201,9 @@ impl Session {
 
     // As `take_states`, for one line, to whose name no hint leads. Any other is carried out by `take_any`.
     #[inline(never)]
-    fn take_state(&mut self, text: &[u8], print: Print, out: &mut Vec<u8>) -> Carried
+    fn take_state(&mut self, text: &[u8], print: &Print, out: &mut Vec<u8>) -> Carried
         requires { CanTakeFirst self.old text.now }
-        ensures { TakesSomeOrNoMemory print self.old self.new
+        ensures { TakesSomeOrNoMemory print.now self.old self.new
             text.now out.old.items out.new.items result }
     {
         let Some((found, rest)) = find_state(text, &self.names) else {
@@ -224,9 +224,9 @@ impl Session {
     // As `take_first`, for one line that joins, makes a call about one task or asks for neighbours. Any other goes to
     // `take_pair` or `take_any`, by its first letter: so does a question for the neighbours of nobody, which has a fault.
     #[inline(never)]
-    fn take_rarer(&mut self, text: &[u8], print: Print, out: &mut Vec<u8>) -> Carried
+    fn take_rarer(&mut self, text: &[u8], print: &Print, out: &mut Vec<u8>) -> Carried
         requires { CanTakeFirst self.old text.now }
-        ensures { TakesSomeOrNoMemory print self.old self.new
+        ensures { TakesSomeOrNoMemory print.now self.old self.new
             text.now out.old.items out.new.items result }
     {
         if let Some((name, rest)) = cut_join(text) {
@@ -254,13 +254,13 @@ impl Session {
         &mut self,
         asked: FoundCall<'_>,
         text: &[u8],
-        print: Print,
+        print: &Print,
         out: &mut Vec<u8>,
     ) -> Carried
         requires begins { BeginsOne self.old.names (word_on_one asked.call)
             asked.task text.now asked.rest.now }
         requires clock { self.old.table.clock < 2 ^ 64 - 1 }
-        ensures { TakesSomeOrNoMemory print self.old self.new
+        ensures { TakesSomeOrNoMemory print.now self.old self.new
             text.now out.old.items out.new.items result }
     {
         match asked.task {
@@ -282,13 +282,13 @@ impl Session {
         text: &[u8],
         name: Name,
         rest: &[u8],
-        print: Print,
+        print: &Print,
         out: &mut Vec<u8>,
     ) -> Carried
         requires name { is_name name ≡ true }
         requires begins { text.now ≡ join_word ++ 32 ∷ name ++ 10 ∷ rest.now }
         requires first { CanTakeFirst self.old text.now }
-        ensures { TakesSomeOrNoMemory print self.old self.new
+        ensures { TakesSomeOrNoMemory print.now self.old self.new
             text.now out.old.items out.new.items result }
     {
         match self.join(name, print, out) {
@@ -304,9 +304,9 @@ impl Session {
     // As `take_first`, of any line, by its words. Few lines come here: those with a fault that no usual form shows, `next`,
     // those without a word or with other blanks, and the last ones of a text.
     #[inline(never)]
-    fn take_any(&mut self, text: &[u8], print: Print, out: &mut Vec<u8>) -> Carried
+    fn take_any(&mut self, text: &[u8], print: &Print, out: &mut Vec<u8>) -> Carried
         requires { CanTakeFirst self.old text.now }
-        ensures { TakesSomeOrNoMemory print self.old self.new
+        ensures { TakesSomeOrNoMemory print.now self.old self.new
             text.now out.old.items out.new.items result }
     {
         if let Some(rest) = after_empty(text) {
@@ -321,9 +321,9 @@ impl Session {
 
     // As `take_any`, of a line in which `short_fault` found no fault: `next`, or one with other blanks.
     #[inline(never)]
-    fn take_spaced(&mut self, text: &[u8], print: Print, out: &mut Vec<u8>) -> Carried
+    fn take_spaced(&mut self, text: &[u8], print: &Print, out: &mut Vec<u8>) -> Carried
         requires { CanTakeFirst self.old text.now }
-        ensures { TakesSomeOrNoMemory print self.old self.new
+        ensures { TakesSomeOrNoMemory print.now self.old self.new
             text.now out.old.items out.new.items result }
     {
         let Some((reading, rest)) = read_spaced(&self.names, text) else {
@@ -344,9 +344,9 @@ impl Session {
     // As `take_any`, of a line whose words are cut one after the other: one without a word, a comment that isn't known by its
     // first byte, one with a long word, many blanks or another control byte, or one of the last.
     #[inline(never)]
-    fn take_longer(&mut self, text: &[u8], print: Print, out: &mut Vec<u8>) -> Carried
+    fn take_longer(&mut self, text: &[u8], print: &Print, out: &mut Vec<u8>) -> Carried
         requires { CanTakeFirst self.old text.now }
-        ensures { TakesSomeOrNoMemory print self.old self.new
+        ensures { TakesSomeOrNoMemory print.now self.old self.new
             text.now out.old.items out.new.items result }
     {
         let Some((line, rest)) = next_line(text) else {
@@ -366,14 +366,14 @@ impl Session {
         fault: LineFault,
         text: &[u8],
         rest: &[u8],
-        print: Print,
+        print: &Print,
         out: &mut Vec<u8>,
     ) -> Carried
         requires { ReadsFirst self.old.names text.now rest.now (Err fault) }
-        ensures { TakesSomeOrNoMemory print self.old self.new
+        ensures { TakesSomeOrNoMemory print.now self.old self.new
             text.now out.old.items out.new.items result }
     {
-        let Ok(()) = print_fault(fault, print, out) else {
+        let Ok(()) = print_fault(fault, *print, out) else {
             return Carried::NoMemory;
         };
         self.count_line();
@@ -383,9 +383,9 @@ impl Session {
     // Makes a call about one task, and appends its line. Each call is compiled for itself, so that nothing asks again
     // which it is.
     #[inline(always)]
-    fn make_step(&mut self, call: CallOnOne, task: Task, print: Print, out: &mut Vec<u8>) -> Printed
+    fn make_step(&mut self, call: CallOnOne, task: Task, print: &Print, out: &mut Vec<u8>) -> Printed
         requires { self.old.table.clock < 2 ^ 64 - 1 }
-        ensures ok { OnOk result (CarriesOutCommand print self.old self.new
+        ensures ok { OnOk result (CarriesOutCommand print.now self.old self.new
             (usual_command (usual.OnOne call task)) out.old.items out.new.items) }
         ensures err { OnErr result (out.new.items ≡ out.old.items) }
     {
@@ -405,11 +405,11 @@ impl Session {
         call: CallOnTwo,
         first: Task,
         second: Task,
-        print: Print,
+        print: &Print,
         out: &mut Vec<u8>,
     ) -> Printed
         requires { self.old.table.clock < 2 ^ 64 - 1 }
-        ensures ok { OnOk result (CarriesOutCommand print self.old self.new
+        ensures ok { OnOk result (CarriesOutCommand print.now self.old self.new
             (usual_command (usual.OnTwo call first second)) out.old.items out.new.items) }
         ensures err { OnErr result (out.new.items ≡ out.old.items) }
     {
@@ -421,14 +421,14 @@ impl Session {
 
     /// Carries out a line without its line feed, by its words, and answers whether it has a fault. On `Err` nothing was
     /// appended.
-    pub fn take_words(&mut self, line: &[u8], print: Print, out: &mut Vec<u8>) -> Answered<bool>
+    pub fn take_words(&mut self, line: &[u8], print: &Print, out: &mut Vec<u8>) -> Answered<bool>
         requires { self.old.table.clock < 2 ^ 64 - 1 }
         ensures fault { IfOk result (λ fault.
             fault ≡ is_fault (reading_of self.old.names line.now)) }
         ensures after { OnOk result
             (self.new ≡ after_reading self.old (reading_of self.old.names line.now)) }
         ensures output { OnOk result (out.new.items ≡ out.old.items ++ text_of_lines
-            (printed_of print self.old (reading_of self.old.names line.now))) }
+            (printed_of print.now self.old (reading_of self.old.names line.now))) }
         ensures err { OnErr result (out.new.items ≡ out.old.items) }
     {
         self.count_line();
@@ -439,7 +439,7 @@ impl Session {
                 Ok(false)
             }
             Err(fault) => {
-                print_fault(fault, print, out)?;
+                print_fault(fault, *print, out)?;
                 Ok(true)
             }
         }
@@ -447,21 +447,21 @@ impl Session {
 
     // Makes a call, and appends its line.
     #[inline(always)]
-    fn make_call(&mut self, call: Call, print: Print, out: &mut Vec<u8>) -> Printed
+    fn make_call(&mut self, call: Call, print: &Print, out: &mut Vec<u8>) -> Printed
         requires { self.old.table.clock < 2 ^ 64 - 1 }
-        ensures ok { OnOk result (CarriesOutCommand print self.old self.new (Command.Call call)
+        ensures ok { OnOk result (CarriesOutCommand print.now self.old self.new (Command.Call call)
             out.old.items out.new.items) }
         ensures err { OnErr result (out.new.items ≡ out.old.items) }
     {
         let reply = self.arbiter.apply(call);
-        print_call(call, reply, print, out)
+        print_call(call, reply, *print, out)
     }
 
     // As `make_call`, compiled once for all calls.
     #[inline(never)]
-    fn make_any_call(&mut self, call: Call, print: Print, out: &mut Vec<u8>) -> Printed
+    fn make_any_call(&mut self, call: Call, print: &Print, out: &mut Vec<u8>) -> Printed
         requires { self.old.table.clock < 2 ^ 64 - 1 }
-        ensures ok { OnOk result (CarriesOutCommand print self.old self.new (Command.Call call)
+        ensures ok { OnOk result (CarriesOutCommand print.now self.old self.new (Command.Call call)
             out.old.items out.new.items) }
         ensures err { OnErr result (out.new.items ≡ out.old.items) }
     {
@@ -469,10 +469,10 @@ impl Session {
     }
 
     // Carries out a command, and appends its line. A question has none in a journal, and nobody has to answer it then.
-    fn carry_out(&mut self, command: Command, print: Print, out: &mut Vec<u8>) -> Printed
+    fn carry_out(&mut self, command: Command, print: &Print, out: &mut Vec<u8>) -> Printed
         requires free { IsFree self.old.names command }
         requires clock { self.old.table.clock < 2 ^ 64 - 1 }
-        ensures ok { OnOk result (CarriesOutCommand print self.old self.new command
+        ensures ok { OnOk result (CarriesOutCommand print.now self.old self.new command
             out.old.items out.new.items) }
         ensures err { OnErr result (out.new.items ≡ out.old.items) }
     {
@@ -487,12 +487,12 @@ impl Session {
 
     // Appends the line of a task's state, where what is printed has one.
     #[inline(always)]
-    fn tell_state(&self, task: Task, print: Print, out: &mut Vec<u8>) -> Printed
+    fn tell_state(&self, task: Task, print: &Print, out: &mut Vec<u8>) -> Printed
         ensures ok { OnOk result (out.new.items ≡ out.old.items
-            ++ text_of_lines (printed_by print self.now.table (Command.State task))) }
+            ++ text_of_lines (printed_by print.now self.now.table (Command.State task))) }
         ensures err { OnErr result (out.new.items ≡ out.old.items) }
     {
-        if print == Print::Journal {
+        if *print == Print::Journal {
             return Ok(());
         }
         print_state(self.arbiter.state(task), out)
@@ -500,24 +500,24 @@ impl Session {
 
     // Appends the line of a task's neighbours, where what is printed has one.
     #[inline(never)]
-    fn tell_neighbours(&self, task: Task, print: Print, out: &mut Vec<u8>) -> Printed
+    fn tell_neighbours(&self, task: Task, print: &Print, out: &mut Vec<u8>) -> Printed
         ensures ok { OnOk result (out.new.items ≡ out.old.items
-            ++ text_of_lines (printed_by print self.now.table (Command.Neighbours task))) }
+            ++ text_of_lines (printed_by print.now self.now.table (Command.Neighbours task))) }
         ensures err { OnErr result (out.new.items ≡ out.old.items) }
     {
-        match print {
+        match *print {
             Print::Replies => print_neighbours(self.arbiter.neighbours(self.alloc, task)?, out),
             Print::Journal => Ok(()),
         }
     }
 
     // Appends the line of the next ready task, where what is printed has one.
-    fn tell_next(&self, print: Print, out: &mut Vec<u8>) -> Printed
+    fn tell_next(&self, print: &Print, out: &mut Vec<u8>) -> Printed
         ensures ok { OnOk result (out.new.items ≡ out.old.items
-            ++ text_of_lines (printed_by print self.now.table Command.Next)) }
+            ++ text_of_lines (printed_by print.now self.now.table Command.Next)) }
         ensures err { OnErr result (out.new.items ≡ out.old.items) }
     {
-        match print {
+        match *print {
             Print::Replies => print_next(self.arbiter.next_ready(), out),
             Print::Journal => Ok(()),
         }
@@ -525,14 +525,14 @@ impl Session {
 
     // Lets a task join under the name, if the name is free, and answers whether it was. If it wasn't, nothing is done.
     #[inline(always)]
-    fn join(&mut self, name: Name, print: Print, out: &mut Vec<u8>) -> Answered<bool>
+    fn join(&mut self, name: Name, print: &Print, out: &mut Vec<u8>) -> Answered<bool>
         requires clock { self.old.table.clock < 2 ^ 64 - 1 }
         ensures free { IfOk result (λ free.
             free ≡ not (is_some (task_named self.old.names name))) }
         ensures after { result ≡ Ok true →
             self.new ≡ after_command self.old (Command.Join name) }
         ensures output { result ≡ Ok true → out.new.items ≡ out.old.items
-            ++ text_of_lines (printed_by print self.old.table (Command.Join name)) }
+            ++ text_of_lines (printed_by print.now self.old.table (Command.Join name)) }
         ensures kept { result ≡ Ok false →
             (self.new ≡ self.old) × (out.new.items ≡ out.old.items) }
         ensures err { OnErr result (out.new.items ≡ out.old.items) }
@@ -542,16 +542,16 @@ impl Session {
             return Ok(false);
         }
         self.arbiter.apply_answered(Call::Join, reply);
-        print_join(reply, print, out)?;
+        print_join(reply, *print, out)?;
         Ok(true)
     }
 
     // A task joins, and takes the name.
     #[inline(never)]
-    fn join_free(&mut self, name: Name, print: Print, out: &mut Vec<u8>) -> Printed
+    fn join_free(&mut self, name: Name, print: &Print, out: &mut Vec<u8>) -> Printed
         requires free { task_named self.old.names name ≡ None }
         requires clock { self.old.table.clock < 2 ^ 64 - 1 }
-        ensures ok { OnOk result (CarriesOutCommand print self.old self.new (Command.Join name)
+        ensures ok { OnOk result (CarriesOutCommand print.now self.old self.new (Command.Join name)
             out.old.items out.new.items) }
         ensures err { OnErr result (out.new.items ≡ out.old.items) }
     {

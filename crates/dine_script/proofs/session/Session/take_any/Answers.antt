@@ -10,5 +10,5 @@ returns-in-Some c =
     let text = c.args.text.now in
     let rest = c.in-Some.rest.now in
     let out = c.args.out.now.items in
-    subst (λ t. TakesUpTo c.args.print s t text (length rest) out out false) (sym c.count_line.ensures)
-    (takes-up-to c.args.print s s text rest out out false (takes-comment c.args.print s text rest out c.in-Some.ensures))
+    subst (λ t. TakesUpTo c.args.print.now s t text (length rest) out out false) (sym c.count_line.ensures)
+    (takes-up-to c.args.print.now s s text rest out out false (takes-comment c.args.print.now s text rest out c.in-Some.ensures))

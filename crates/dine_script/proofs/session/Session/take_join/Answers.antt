@@ -21,6 +21,6 @@ pub returns-in-Ok-true : goal.returns-in-Ok-true
 returns-in-Ok-true c =
     let free : not (is_some (task_named c.args.self.now.names c.args.name)) ≡ true = search rules in
     let stands : c.count_line.new.self ≡ after_command c.args.self.now (command.Join c.args.name) = search rules in
-    let output : c.join.new.out.items ≡ c.args.out.now.items ++ text_of_lines (printed_by c.args.print c.args.self.now.table (command.Join c.args.name)) = search rules in
-    takes-up-to c.args.print c.args.self.now c.count_line.new.self c.args.text.now c.args.rest.now c.args.out.now.items c.join.new.out.items false
-    (takes-join c.args.print c.args.self.now c.count_line.new.self c.args.name c.args.text.now c.args.rest.now c.args.out.now.items c.join.new.out.items c.requires.name free c.requires.begins stands output)
+    let output : c.join.new.out.items ≡ c.args.out.now.items ++ text_of_lines (printed_by c.args.print.now c.args.self.now.table (command.Join c.args.name)) = search rules in
+    takes-up-to c.args.print.now c.args.self.now c.count_line.new.self c.args.text.now c.args.rest.now c.args.out.now.items c.join.new.out.items false
+    (takes-join c.args.print.now c.args.self.now c.count_line.new.self c.args.name c.args.text.now c.args.rest.now c.args.out.now.items c.join.new.out.items c.requires.name free c.requires.begins stands output)
