@@ -1,5 +1,5 @@
 -- What the steps of a script do: to where it stands, and to what is printed.
-use Rattle.std.specs.Prelude.{◌≡◌, ◌<◌, ◌≤◌, ◌-◌, ◌^◌, ℕ, Bool, true, false, ◌||◌, List, map, ◌∷◌, ◌++◌, drop, length, Result, Ok, Err}
+use Rattle.std.specs.Prelude.{◌≡◌, ◌<◌, ◌≤◌, ◌-◌, ℕ, Bool, true, false, ◌||◌, List, map, ◌∷◌, ◌++◌, drop, length, Result, Ok, Err}
 use Rattle.std.specs.Borrow.{Bor}
 use Rattle.dine_words.specs.Texts.{text_of_lines}
 use Rattle.dine_lines.specs.Lines.{lines_of}
@@ -16,11 +16,6 @@ use Rattle.dine_script.specs.Script.{Script, Session, after_command, after_readi
 pub record CarriesOutCommand (print : Print) (old new : Session) (asked : Command) (before behind : List ℕ) : Type 0 where
   pub after : new ≡ after_command old asked
   pub output : behind ≡ before ++ text_of_lines (printed_by print old.table asked)
-
--- the first line of a text can be carried out: there is one, and the clock of the table isn't full
-pub record CanTakeFirst (s : Session) (text : List ℕ) : Type 0 where
-  pub some : 0 < length text
-  pub clock : s.table.clock < 2 ^ 64 - 1
 
 -- the first line of the text was carried out, and then comes the rest: where the script stands now, what was appended,
 -- and whether the line has a fault, are those of its reading

@@ -74,9 +74,6 @@ impl Machine for Script {
 
     #[inline(always)]
     fn take<'a>(&mut self, text: &'a [u8], out: &mut Vec<u8>) -> Result<&'a [u8], AllocError> {
-        if self.session.is_worn_out() {
-            return Err(AllocError);
-        }
         let (fault, rest) = self.session.take_first(text, &self.print, out)?;
         self.look(text, fault);
         Ok(rest)
@@ -86,9 +83,6 @@ impl Machine for Script {
     fn take_last(&mut self, begun: &[u8], out: &mut Vec<u8>) -> Result<(), AllocError> {
         if begun.is_empty() {
             return Ok(());
-        }
-        if self.session.is_worn_out() {
-            return Err(AllocError);
         }
         let fault = self.session.take_words(begun, &self.print, out)?;
         self.look(begun, fault);

@@ -1,12 +1,12 @@
 //! Where a script stands, and what it answers to one line.
 
-ghost use Rattle.std.specs.Prelude.{◌≡◌, nat_le, Err, ◌<◌, ◌-◌, ◌^◌, ◌∷◌, ◌++◌, true, false, not, is_some, IfErr, IfOk, OnErr, OnOk, None, Some};
+ghost use Rattle.std.specs.Prelude.{◌≡◌, Err, ◌<◌, ◌∷◌, ◌++◌, length, true, false, not, is_some, IfErr, IfOk, OnErr, OnOk, None, Some};
 ghost use Rattle.dine_script.specs.Commands.{IsFree, ReadsFirst, reading_of, usual_command};
 ghost use Rattle.dine_lines.specs.Usual as usual;
 ghost use Rattle.dine_lines.specs.Names.{is_name, task_named};
 ghost use Rattle.dine_lines.specs.UsualLines.{BeginsOne};
 ghost use Rattle.dine_words.specs.CallWords.{join_word, word_on_one};
-ghost use Rattle.dine_script.specs.Printed.{CanTakeFirst, CarriesOutCommand, TakesSomeOrFails, TakesSomeOrNoMemory};
+ghost use Rattle.dine_script.specs.Printed.{CarriesOutCommand, TakesSomeOrFails, TakesSomeOrNoMemory};
 ghost use Rattle.dine_script.specs.Script.{after_command, after_reading, is_fault, names_after_join, opening, printed_by, printed_of};
 ghost use Rattle.dine_words.specs.Texts.{text_of_lines};
 
@@ -80,24 +80,16 @@ impl Session {
         self.arbiter.limits()
     }
 
-    /// Whether no more joins and finishes can be counted in 64 bits.
-    #[inline(always)]
-    pub fn is_worn_out(&self) -> bool
-        ensures { result ≡ nat_le (2 ^ 64 - 1) self.now.table.clock }
-    {
-        u64::MAX <= self.arbiter.clock()
-    }
-
     /// Carries out the first line of a text, appends what is printed of it to `out`, and answers whether it has a
     /// fault, and the text after the line. Where it asks for a state, those that follow it and ask for one
     /// are carried out with it. On `Err` nothing was appended.
     ///
     /// The steps of meals and the calls about two tasks are compiled into the loop over lines, and take no memory there. So
-    /// are comments, which are passed over. All other lines stand apart from it. The clock is below `u64::MAX`: it counts
-    /// the joins and finishes that were accepted.
+    /// are comments, which are passed over. All other lines stand apart from it. An error is want of
+    /// memory, or that no more joins and finishes can be counted.
     #[inline(always)]
     pub fn take_first<'a>(&mut self, text: &'a [u8], print: &Print, out: &mut Vec<u8>) -> Taken<'a>
-        requires { CanTakeFirst self.old text.now }
+        requires { 0 < length text.now }
         ensures { TakesSomeOrFails print.now self.old self.new
             text.now out.old.items out.new.items result }
     {
@@ -117,7 +109,7 @@ impl Session {
     /// others.
     #[inline(always)]
     pub fn take_line<'a>(&mut self, text: &'a [u8], print: &Print, out: &mut Vec<u8>) -> Taken<'a>
-        requires { CanTakeFirst self.old text.now }
+        requires { 0 < length text.now }
         ensures { TakesSomeOrFails print.now self.old self.new
             text.now out.old.items out.new.items result }
     {
@@ -149,7 +141,7 @@ impl Session {
     // carried out by `take_any`.
     #[inline(never)]
     fn take_pair(&mut self, text: &[u8], print: &Print, out: &mut Vec<u8>) -> Carried
-        requires { CanTakeFirst self.old text.now }
+        requires { 0 < length text.now }
         ensures { TakesSomeOrNoMemory print.now self.old self.new
             text.now out.old.items out.new.items result }
     {
@@ -176,7 +168,7 @@ impl Session {
     // names at once.
     #[inline(never)]
     fn take_states(&mut self, text: &[u8], print: &Print, out: &mut Vec<u8>) -> Carried
-        requires { CanTakeFirst self.old text.now }
+        requires { 0 < length text.now }
         ensures { TakesSomeOrNoMemory print.now self.old self.new
             text.now out.old.items out.new.items result }
     {
@@ -202,7 +194,7 @@ impl Session {
     // As `take_states`, for one line, to whose name no hint leads. Any other is carried out by `take_any`.
     #[inline(never)]
     fn take_state(&mut self, text: &[u8], print: &Print, out: &mut Vec<u8>) -> Carried
-        requires { CanTakeFirst self.old text.now }
+        requires { 0 < length text.now }
         ensures { TakesSomeOrNoMemory print.now self.old self.new
             text.now out.old.items out.new.items result }
     {
@@ -225,7 +217,7 @@ impl Session {
     // `take_pair` or `take_any`, by its first letter: so does a question for the neighbours of nobody, which has a fault.
     #[inline(never)]
     fn take_rarer(&mut self, text: &[u8], print: &Print, out: &mut Vec<u8>) -> Carried
-        requires { CanTakeFirst self.old text.now }
+        requires { 0 < length text.now }
         ensures { TakesSomeOrNoMemory print.now self.old self.new
             text.now out.old.items out.new.items result }
     {
@@ -257,9 +249,8 @@ impl Session {
         print: &Print,
         out: &mut Vec<u8>,
     ) -> Carried
-        requires begins { BeginsOne self.old.names (word_on_one asked.call)
+        requires { BeginsOne self.old.names (word_on_one asked.call)
             asked.task text.now asked.rest.now }
-        requires clock { self.old.table.clock < 2 ^ 64 - 1 }
         ensures { TakesSomeOrNoMemory print.now self.old self.new
             text.now out.old.items out.new.items result }
     {
@@ -287,7 +278,6 @@ impl Session {
     ) -> Carried
         requires name { is_name name ≡ true }
         requires begins { text.now ≡ join_word ++ 32 ∷ name ++ 10 ∷ rest.now }
-        requires first { CanTakeFirst self.old text.now }
         ensures { TakesSomeOrNoMemory print.now self.old self.new
             text.now out.old.items out.new.items result }
     {
@@ -305,7 +295,7 @@ impl Session {
     // those without a word or with other blanks, and the last ones of a text.
     #[inline(never)]
     fn take_any(&mut self, text: &[u8], print: &Print, out: &mut Vec<u8>) -> Carried
-        requires { CanTakeFirst self.old text.now }
+        requires { 0 < length text.now }
         ensures { TakesSomeOrNoMemory print.now self.old self.new
             text.now out.old.items out.new.items result }
     {
@@ -322,7 +312,7 @@ impl Session {
     // As `take_any`, of a line in which `short_fault` found no fault: `next`, or one with other blanks.
     #[inline(never)]
     fn take_spaced(&mut self, text: &[u8], print: &Print, out: &mut Vec<u8>) -> Carried
-        requires { CanTakeFirst self.old text.now }
+        requires { 0 < length text.now }
         ensures { TakesSomeOrNoMemory print.now self.old self.new
             text.now out.old.items out.new.items result }
     {
@@ -345,7 +335,7 @@ impl Session {
     // first byte, one with a long word, many blanks or another control byte, or one of the last.
     #[inline(never)]
     fn take_longer(&mut self, text: &[u8], print: &Print, out: &mut Vec<u8>) -> Carried
-        requires { CanTakeFirst self.old text.now }
+        requires { 0 < length text.now }
         ensures { TakesSomeOrNoMemory print.now self.old self.new
             text.now out.old.items out.new.items result }
     {
@@ -384,7 +374,6 @@ impl Session {
     // which it is.
     #[inline(always)]
     fn make_step(&mut self, call: CallOnOne, task: Task, print: &Print, out: &mut Vec<u8>) -> Printed
-        requires { self.old.table.clock < 2 ^ 64 - 1 }
         ensures ok { OnOk result (CarriesOutCommand print.now self.old self.new
             (usual_command (usual.OnOne call task)) out.old.items out.new.items) }
         ensures err { OnErr result (out.new.items ≡ out.old.items) }
@@ -408,7 +397,6 @@ impl Session {
         print: &Print,
         out: &mut Vec<u8>,
     ) -> Printed
-        requires { self.old.table.clock < 2 ^ 64 - 1 }
         ensures ok { OnOk result (CarriesOutCommand print.now self.old self.new
             (usual_command (usual.OnTwo call first second)) out.old.items out.new.items) }
         ensures err { OnErr result (out.new.items ≡ out.old.items) }
@@ -422,7 +410,6 @@ impl Session {
     /// Carries out a line without its line feed, by its words, and answers whether it has a fault. On `Err` nothing was
     /// appended.
     pub fn take_words(&mut self, line: &[u8], print: &Print, out: &mut Vec<u8>) -> Answered<bool>
-        requires { self.old.table.clock < 2 ^ 64 - 1 }
         ensures fault { IfOk result (λ fault.
             fault ≡ is_fault (reading_of self.old.names line.now)) }
         ensures after { OnOk result
@@ -448,11 +435,13 @@ impl Session {
     // Makes a call, and appends its line.
     #[inline(always)]
     fn make_call(&mut self, call: Call, print: &Print, out: &mut Vec<u8>) -> Printed
-        requires { self.old.table.clock < 2 ^ 64 - 1 }
         ensures ok { OnOk result (CarriesOutCommand print.now self.old self.new (Command.Call call)
             out.old.items out.new.items) }
         ensures err { OnErr result (out.new.items ≡ out.old.items) }
     {
+        if u64::MAX <= self.arbiter.clock() {
+            return Err(AllocError);
+        }
         let reply = self.arbiter.apply(call);
         print_call(call, reply, *print, out)
     }
@@ -460,7 +449,6 @@ impl Session {
     // As `make_call`, compiled once for all calls.
     #[inline(never)]
     fn make_any_call(&mut self, call: Call, print: &Print, out: &mut Vec<u8>) -> Printed
-        requires { self.old.table.clock < 2 ^ 64 - 1 }
         ensures ok { OnOk result (CarriesOutCommand print.now self.old self.new (Command.Call call)
             out.old.items out.new.items) }
         ensures err { OnErr result (out.new.items ≡ out.old.items) }
@@ -470,8 +458,7 @@ impl Session {
 
     // Carries out a command, and appends its line. A question has none in a journal, and nobody has to answer it then.
     fn carry_out(&mut self, command: Command, print: &Print, out: &mut Vec<u8>) -> Printed
-        requires free { IsFree self.old.names command }
-        requires clock { self.old.table.clock < 2 ^ 64 - 1 }
+        requires { IsFree self.old.names command }
         ensures ok { OnOk result (CarriesOutCommand print.now self.old self.new command
             out.old.items out.new.items) }
         ensures err { OnErr result (out.new.items ≡ out.old.items) }
@@ -526,7 +513,6 @@ impl Session {
     // Lets a task join under the name, if the name is free, and answers whether it was. If it wasn't, nothing is done.
     #[inline(always)]
     fn join(&mut self, name: Name, print: &Print, out: &mut Vec<u8>) -> Answered<bool>
-        requires clock { self.old.table.clock < 2 ^ 64 - 1 }
         ensures free { IfOk result (λ free.
             free ≡ not (is_some (task_named self.old.names name))) }
         ensures after { result ≡ Ok true →
@@ -537,6 +523,9 @@ impl Session {
             (self.new ≡ self.old) × (out.new.items ≡ out.old.items) }
         ensures err { OnErr result (out.new.items ≡ out.old.items) }
     {
+        if u64::MAX <= self.arbiter.clock() {
+            return Err(AllocError);
+        }
         let reply = self.arbiter.reply_to(Call::Join);
         if !take_name(&mut self.names, name, reply)? {
             return Ok(false);
@@ -549,8 +538,7 @@ impl Session {
     // A task joins, and takes the name.
     #[inline(never)]
     fn join_free(&mut self, name: Name, print: &Print, out: &mut Vec<u8>) -> Printed
-        requires free { task_named self.old.names name ≡ None }
-        requires clock { self.old.table.clock < 2 ^ 64 - 1 }
+        requires { task_named self.old.names name ≡ None }
         ensures ok { OnOk result (CarriesOutCommand print.now self.old self.new (Command.Join name)
             out.old.items out.new.items) }
         ensures err { OnErr result (out.new.items ≡ out.old.items) }

@@ -4,7 +4,7 @@ use Rattle.dine_script.proofs.Fronts.{takes-one, takes-up-to}
 use Rattle.dine_script.proofs.session.Session.take_longer.Goals as goal
 
 pub unreachable-requires : goal.unreachable-requires
-unreachable-requires c = some_line c.args.text.now c.requires.some (search rules)
+unreachable-requires c = some_line c.args.text.now c.requires (search rules)
 
 pub returns-in-Ok-true : goal.returns-in-Ok-true
 returns-in-Ok-true c =
