@@ -373,7 +373,13 @@ impl Session {
     // Makes a call about one task, and appends its line. Each call is compiled for itself, so that nothing asks again
     // which it is.
     #[inline(always)]
-    fn make_step(&mut self, call: CallOnOne, task: Task, print: &Print, out: &mut Vec<u8>) -> Printed
+    fn make_step(
+        &mut self,
+        call: CallOnOne,
+        task: Task,
+        print: &Print,
+        out: &mut Vec<u8>,
+    ) -> Printed
         ensures ok { OnOk result (CarriesOutCommand print.now self.old self.new
             (usual_command (usual.OnOne call task)) out.old.items out.new.items) }
         ensures err { OnErr result (out.new.items ≡ out.old.items) }

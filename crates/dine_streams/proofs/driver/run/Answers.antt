@@ -1,4 +1,4 @@
-use Rattle.std.proofs.Common.{◌≡◌, Err, rules, ◌∙◌}
+use Rattle.std.proofs.Common.{rules}
 use Rattle.dine_streams.proofs.driver.run.Goals as goal
 
 pub returns : goal.returns

@@ -1,6 +1,6 @@
-use Rattle.std.proofs.Common.{◌≡◌, ◌++◌, Ok, Err, ap, rules, ◌∙◌, subst}
+use Rattle.std.proofs.Common.{◌≡◌, ◌++◌, Err, ap, rules}
 use Rattle.dine_streams.specs.Machines.{printed_from}
-use Rattle.dine_streams.specs.declared.ended.CliFault.TheVariants.{Memory, Write}
+use Rattle.dine_streams.specs.declared.ended.CliFault.TheVariants.{Write}
 use Rattle.dine_streams.specs.declared.input.InputFault.{InputFault}
 use Rattle.dine_streams.proofs.OnceReads.{in-err, in-ok, pending-is, ran-once, ran-unread, ran-unwritten, ran-wanting}
 use Rattle.dine_streams.proofs.once_read.run_begun.Goals as goal

@@ -1,6 +1,5 @@
-use Rattle.std.proofs.Common.{Err, ap, ◌∙◌, arith}
-use Rattle.dine_streams.specs.declared.input.InputFault.{InputFault}
-use Rattle.dine_streams.proofs.Inputs.{ended-all, heard-out-later, out-all}
+use Rattle.std.proofs.Common.{arith}
+use Rattle.dine_streams.proofs.Inputs.{ended-all}
 use Rattle.dine_streams.proofs.OnceReads.{ill-on, part-all, taken-all, well-on}
 use Rattle.dine_streams.proofs.once_read.take_input.Goals as goal
 

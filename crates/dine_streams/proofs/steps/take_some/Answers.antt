@@ -1,4 +1,4 @@
-use Rattle.std.proofs.Common.{◌<◌, ◌∙◌, ap, arith, length}
+use Rattle.std.proofs.Common.{◌∙◌, ap, arith, length}
 use Rattle.dine_streams.proofs.Ends.{empty}
 use Rattle.dine_streams.proofs.OnceReads.{on-err}
 use Rattle.dine_streams.proofs.Takings.{takes-none, takes-part, takes-then}

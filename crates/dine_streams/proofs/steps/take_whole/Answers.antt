@@ -1,7 +1,6 @@
-use Rattle.std.proofs.Common.{◌≡◌, ◌++◌, ◌∙◌, Err, List, ℕ, Option, ap, map, rules, subst, sym, take, drop, []}
+use Rattle.std.proofs.Common.{◌≡◌, ◌++◌, ◌∙◌, ap, map, rules, subst, sym, take, []}
 use Rattle.std.proofs.lemmas.List.{take_rest}
-use Rattle.dine_streams.specs.Lines.{begun_line, ended_lines, kept_of, seen_lines, seen_of}
-use Rattle.dine_streams.specs.declared.ended.CliFault.TheVariants.{Memory, Read, Write}
+use Rattle.dine_streams.specs.Lines.{begun_line, kept_of, seen_lines, seen_of}
 use Rattle.dine_streams.specs.Machines.{left_by, printed_from}
 use Rattle.dine_streams.specs.Runs.{Writes}
 use Rattle.dine_streams.proofs.Outcomes.{writes-behind, writes-front}
