@@ -8,7 +8,7 @@ use Rattle.dine_forks.proofs.Seen.{seen_all, is_in_use-seen, map-map}
 -- ---- marks
 
 -- a mark that is set at one slot leaves the others
-marked-other : (marks : List Bool) (slot other : ℕ) (b : Bool) → eqb slot other ≡ false → is_marked (set marks slot b) other ≡ is_marked marks other
+pub marked-other : (marks : List Bool) (slot other : ℕ) (b : Bool) → eqb slot other ≡ false → is_marked (set marks slot b) other ≡ is_marked marks other
 marked-other marks slot other b e = get_or-set_other marks slot other b false (λ same. false≢true (sym e ∙ eq-eqb slot other (sym same)))
 
 -- and is read there

@@ -1,12 +1,12 @@
 -- A walk of a slot's list that runs rules at its records: one step, and what is left.
-use Rattle.dine_forks.proofs.Words.{◌≡◌, ℕ, ◌<◌, Bool, true, false, not, beq, eqb, List, [], ◌∷◌, length, map, list_all, set, None, Some, Option, if◌then◌else◌, ◌==◌, inl, inr, refl, sym, ap, ◌∙◌, arith, cases_Bool, eqb-true, nat_tests, sum_by, sum_by-cons, Fork, ForkId, ForkRecord, ForkBook, IsBook, EachIdOnce, EndsAreSlots, Onward, behind, book_with_fork, first_id, is_end, is_in_use, other_end, reached, record_of, slot_list, end_with, holder, dirtied, option_map, CanCount, CanPut, Count, IsCounted, IsTiedBut, IsSeenAlike, IsSided, both_recounted, recounted, count_at, count_in, is_marked, is_reached, is_reached_at, lacks, relieved, seen_book, seen_record, times_reached, walked_at, walked_fork, false≢true}
+use Rattle.dine_forks.proofs.Words.{◌≡◌, ◌≢◌, ◌||◌, subst, ℕ, ◌<◌, Bool, true, false, not, and_parts, is_met_at, IsTied, length-set, one_if, HasEndedMark, owed_at, owed_fork, times_walked, beq, eqb, List, [], ◌∷◌, length, map, list_all, set, None, Some, Option, if◌then◌else◌, ◌==◌, inl, inr, refl, sym, ap, ◌∙◌, arith, cases_Bool, eqb-true, nat_tests, sum_by, sum_by-cons, Fork, ForkId, ForkRecord, ForkBook, IsBook, EachIdOnce, EndsAreSlots, Onward, behind, book_with_fork, first_id, is_end, is_in_use, other_end, reached, record_of, slot_list, end_with, holder, dirtied, option_map, CanCount, CanPut, Count, IsCounted, IsTiedBut, IsSeenAlike, IsSided, both_recounted, recounted, count_at, count_in, is_marked, is_reached, is_reached_at, lacks, relieved, seen_book, seen_record, times_reached, walked_at, walked_fork, false≢true}
 use Rattle.dine_forks.specs.declared.record.At.{At}
 use Rattle.dine_forks.specs.Edges.{is_first}
 use Rattle.dine_forks.specs.Sending.{after}
 use Rattle.dine_forks.specs.declared.sent.Sent.TheVariants as sent
 use Rattle.dine_forks.specs.declared.rules.Reach.{Reach}
 use Rattle.dine_forks.specs.declared.rules.Reach.TheVariants as reach
-use Rattle.dine_forks.proofs.Marking.{put-seen}
+use Rattle.dine_forks.proofs.Marking.{marked-other, marked-same, put-seen}
 use Rattle.dine_forks.proofs.Seen.{next-seen, once-seen, record_of_seen, seen_all, seen-same, slot_list_seen}
 use Rattle.dine_forks.proofs.Counted.{end_in, end_of, few-in, some-at}
 use Rattle.dine_forks.proofs.Tied.{apart, found-alike, own-is, put-back, sided, tied-alike, within}
@@ -110,22 +110,35 @@ dirt-unreached reach.All first f = refl
 pub reached-seen : (reach : Reach) (slot : ℕ) (marks : List Bool) (r : ForkRecord) → is_reached_at reach slot (seen_record marks r) ≡ is_reached_at reach slot r
 reached-seen reach slot marks r = seen-same (is_reached_at reach slot) marks r (dirt-unreached reach (eqb slot r.first) r.fork)
 
-module _ (reach : Reach) (forks : Bool → ℕ → Fork → Fork) (slot : ℕ) (marks : List Bool) (r : ForkRecord) where
+-- a walk has to do with a record that it reaches
+times-hit : (owes : Bool) → one_if (owes || true) ≡ 1
+times-hit true = refl
+times-hit false = refl
+
+module _ (owes : Bool) (reach : Reach) (forks : Bool → ℕ → Fork → Fork) (slot : ℕ) (marks : List Bool) (r : ForkRecord) where
   -- the rules are run at the fork that is seen of a record that is reached
   pub runs : (first : Bool) → first ≡ eqb slot r.first → is_reached reach first r.fork ≡ true
-      → (walked_fork reach forks slot (seen_record marks r) ≡ forks first (other_end slot r) (seen_record marks r).fork) × (times_reached reach slot r ≡ 1)
+      → (owed_fork owes reach forks slot (seen_record marks r) ≡ forks first (other_end slot r) (seen_record marks r).fork) × (times_walked owes reach slot r ≡ 1)
   runs first is hit =
       let here : is_reached reach (eqb slot r.first) r.fork ≡ true = rw is at hit in
       let dirt = dirt-unreached reach (eqb slot r.first) r.fork ∙ here in
-      rw is (elim (cases_Bool (is_marked marks (holder r))) [ inl m ↦ rw (m, dirt, here) (refl, refl) | inr m ↦ rw (m, here) (refl, refl) ])
+      rw is (elim (cases_Bool (is_marked marks (holder r))) [ inl m ↦ rw (m, dirt, here) (refl, times-hit owes) | inr m ↦ rw (m, here) (refl, times-hit owes) ])
 
-  -- and another stays
-  pub rests : (first : Bool) → first ≡ eqb slot r.first → is_reached reach first r.fork ≡ false
-      → (walked_fork reach forks slot (seen_record marks r) ≡ (seen_record marks r).fork) × (times_reached reach slot r ≡ 0)
-  rests first is hit =
+  -- another gets dirty where that is owed
+  pub owns : (first : Bool) → first ≡ eqb slot r.first → is_reached reach first r.fork ≡ false → owes ≡ true
+      → (owed_fork owes reach forks slot (seen_record marks r) ≡ dirtied r.fork) × (times_walked owes reach slot r ≡ 1)
+  owns first is hit owed =
       let here : is_reached reach (eqb slot r.first) r.fork ≡ false = rw is at hit in
       let dirt = dirt-unreached reach (eqb slot r.first) r.fork ∙ here in
-      elim (cases_Bool (is_marked marks (holder r))) [ inl m ↦ rw (m, dirt, here) (refl, refl) | inr m ↦ rw (m, here) (refl, refl) ]
+      rw owed (elim (cases_Bool (is_marked marks (holder r))) [ inl m ↦ rw m (rw dirt refl, refl) | inr m ↦ rw m (rw here refl, refl) ])
+
+  -- and else stays
+  pub rests : (first : Bool) → first ≡ eqb slot r.first → is_reached reach first r.fork ≡ false → owes ≡ false
+      → (owed_fork owes reach forks slot (seen_record marks r) ≡ (seen_record marks r).fork) × (times_walked owes reach slot r ≡ 0)
+  rests first is hit owed =
+      let here : is_reached reach (eqb slot r.first) r.fork ≡ false = rw is at hit in
+      let dirt = dirt-unreached reach (eqb slot r.first) r.fork ∙ here in
+      rw owed (elim (cases_Bool (is_marked marks (holder r))) [ inl m ↦ rw (m, dirt, here) (refl, refl) | inr m ↦ rw (m, here) (refl, refl) ])
 
 -- the fork of a record that is seen, in its own place
 pub kept-seen : (marks : List Bool) (book : ForkBook) (id : ForkId) (r : ForkRecord) → EachIdOnce book.records → record_of id book.records ≡ Some r → seen_book marks book ≡ book_with_fork id (seen_record marks r).fork (seen_book marks book)
@@ -137,6 +150,11 @@ kept-seen marks book id r once found =
 -- a record that a walk has nothing to do with stays
 pub idle : (reach : Reach) (forks : Bool → ℕ → Fork → Fork) (slot : ℕ) (r : ForkRecord) → times_reached reach slot r ≡ 0 → walked_fork reach forks slot r ≡ r.fork
 idle reach forks slot r none = elim (cases_Bool (is_reached_at reach slot r)) [ inl e ↦ absurd (let one : times_reached reach slot r ≡ 1 = rw e refl in omega (arith, one, none)) | inr e ↦ rw e refl ]
+
+-- so does one where dirt is owed
+pub owed-idle : (owes : Bool) (reach : Reach) (forks : Bool → ℕ → Fork → Fork) (slot : ℕ) (r : ForkRecord) → times_walked owes reach slot r ≡ 0 → owed_fork owes reach forks slot r ≡ r.fork
+owed-idle true reach forks slot r none = absurd (omega (arith, none))
+owed-idle false reach forks slot r none = idle reach forks slot r none
 
 -- what a walk has to do with, as it is counted
 pub reached-lacked : (slots slot : ℕ) (rs : List ForkRecord) → EndsAreSlots slots rs → sum_by (times_reached reach.Lacked slot) (slot_list slot rs) ≡ (count_in rs slot).lacked
@@ -153,6 +171,11 @@ pub reached-all : (slot : ℕ) (rs : List ForkRecord) → sum_by (times_reached 
 reached-all slot [] = refl
 reached-all slot (r ∷ rs) = grind (arith, reached-all slot rs, sum_by-cons (times_reached reach.All slot) r rs)
 
+-- where dirt is owed it has to do with all
+pub walked-all : (reach : Reach) (slot : ℕ) (rs : List ForkRecord) → sum_by (times_walked true reach slot) rs ≡ length rs
+walked-all reach slot [] = refl
+walked-all reach slot (r ∷ rs) = grind (arith, walked-all reach slot rs, sum_by-cons (times_walked true reach slot) r rs)
+
 -- a walk with nothing to do changes nothing
 pub walk-idle : (reach : Reach) (forks : Bool → ℕ → Fork → Fork) (slot : ℕ) (rs : List ForkRecord) → sum_by (times_reached reach slot) (slot_list slot rs) ≡ 0 → map (walked_at reach forks slot) rs ≡ rs
 walk-idle reach forks slot [] none = refl
@@ -165,14 +188,84 @@ walk-idle reach forks slot (r ∷ rs) none = elim (cases_Bool (is_end slot r)) [
 ]
 
 -- what a walk has to do with is seen
-reached-all-seen : (reach : Reach) (slot : ℕ) (marks : List Bool) (rs : List ForkRecord) → sum_by (times_reached reach slot) (seen_all marks rs) ≡ sum_by (times_reached reach slot) rs
-reached-all-seen reach slot marks [] = refl
-reached-all-seen reach slot marks (r ∷ rs) =
-    sum_by-cons (times_reached reach slot) (seen_record marks r) (seen_all marks rs) ∙ rw (reached-seen reach slot marks r, reached-all-seen reach slot marks rs) (sym (sum_by-cons (times_reached reach slot) r rs))
+pub walked-seen : (owes : Bool) (reach : Reach) (slot : ℕ) (marks : List Bool) (r : ForkRecord) → times_walked owes reach slot (seen_record marks r) ≡ times_walked owes reach slot r
+walked-seen owes reach slot marks r = ap (λ b. one_if (owes || b)) (reached-seen reach slot marks r)
 
--- it is as many records as the slot lacks forks, is asked for, or has records
-pub reached-start : (reach : Reach) (slot left : ℕ) (marks : List Bool) (book : ForkBook) → sum_by (times_reached reach slot) (slot_list slot book.records) ≡ left → sum_by (times_reached reach slot) (slot_list slot (seen_all marks book.records)) ≡ left
-reached-start reach slot left marks book is = ap (sum_by (times_reached reach slot)) (slot_list_seen marks slot book.records) ∙ reached-all-seen reach slot marks (slot_list slot book.records) ∙ is
+-- so is all of it
+walked-all-seen : (owes : Bool) (reach : Reach) (slot : ℕ) (marks : List Bool) (rs : List ForkRecord) → sum_by (times_walked owes reach slot) (seen_all marks rs) ≡ sum_by (times_walked owes reach slot) rs
+walked-all-seen owes reach slot marks [] = refl
+walked-all-seen owes reach slot marks (r ∷ rs) =
+    sum_by-cons (times_walked owes reach slot) (seen_record marks r) (seen_all marks rs) ∙ rw (walked-seen owes reach slot marks r, walked-all-seen owes reach slot marks rs) (sym (sum_by-cons (times_walked owes reach slot) r rs))
+
+-- it is as many records as are counted
+pub walked-start : (owes : Bool) (reach : Reach) (slot left : ℕ) (marks : List Bool) (book : ForkBook) → sum_by (times_walked owes reach slot) (slot_list slot book.records) ≡ left → sum_by (times_walked owes reach slot) (slot_list slot (seen_all marks book.records)) ≡ left
+walked-start owes reach slot left marks book is = ap (sum_by (times_walked owes reach slot)) (slot_list_seen marks slot book.records) ∙ walked-all-seen owes reach slot marks (slot_list slot book.records) ∙ is
+
+-- ---- the mark of the slot has ended
+
+module _ (slot : ℕ) (marks : List Bool) (below : slot < length marks) (was : is_marked marks slot ≡ true) where
+  -- the mark was that of the holder
+  was-at : (r : ForkRecord) → eqb slot (holder r) ≡ true → is_marked marks (holder r) ≡ true
+  was-at r e = subst (λ k. is_marked marks k ≡ true) (eqb-true slot (holder r) e) was
+
+  -- what the rules make of a record by what was seen is made of what is seen now, where the forks of the slot get dirty
+  owed-one : (forks : Bool → ℕ → Fork → Fork) (r : ForkRecord) → r.first ≢ r.second → owed_at true reach.Lacked forks slot (seen_record (set marks slot false) r) ≡ walked_at reach.Lacked forks slot (seen_record marks r)
+  owed-one forks r differ = elim (cases_Bool (eqb slot (holder r))) [
+    | inl e ↦ rw (marked-same marks slot (holder r) false below e, was-at r e) (grind (arith, nat_tests, e, differ))
+    | inr e ↦ rw (marked-other marks slot (holder r) false e) (elim (cases_Bool (is_marked marks (holder r))) [ inl m ↦ rw m (grind (arith, nat_tests, e, differ)) | inr m ↦ rw m (grind (arith, nat_tests, e, differ)) ])
+  ]
+
+  -- the rules meet the forks that they met
+  met-one : (meets : Bool → Fork → Bool) (r : ForkRecord) → r.first ≢ r.second → is_met_at reach.Lacked meets slot (seen_record marks r) ≡ true → is_end slot r ≡ true → is_met_at reach.Lacked meets slot (seen_record (set marks slot false) r) ≡ true
+  met-one meets r differ met end = elim (cases_Bool (eqb slot (holder r))) [
+    | inl e ↦ rw (marked-same marks slot (holder r) false below e) (grind (arith, nat_tests, e, differ, end))
+    | inr e ↦ rw (marked-other marks slot (holder r) false e) met
+  ]
+
+  -- so do all
+  owed-all : (forks : Bool → ℕ → Fork → Fork) (slots : ℕ) (rs : List ForkRecord) → EndsAreSlots slots rs → map (owed_at true reach.Lacked forks slot) (seen_all (set marks slot false) rs) ≡ map (walked_at reach.Lacked forks slot) (seen_all marks rs)
+  owed-all forks slots [] ends = refl
+  owed-all forks slots (r ∷ rs) ends = rw (owed-one forks r ends.0, owed-all forks slots rs ends.3) refl
+
+  -- and all are met
+  met-all : (meets : Bool → Fork → Bool) (slots : ℕ) (rs : List ForkRecord) → EndsAreSlots slots rs → list_all (is_met_at reach.Lacked meets slot) (slot_list slot (seen_all marks rs)) ≡ true → list_all (is_met_at reach.Lacked meets slot) (slot_list slot (seen_all (set marks slot false) rs)) ≡ true
+  met-all meets slots [] ends met = refl
+  met-all meets slots (r ∷ rs) ends met =
+      let here : is_end slot (seen_record marks r) ≡ is_end slot r = seen-same (is_end slot) marks r refl in
+      let now : is_end slot (seen_record (set marks slot false) r) ≡ is_end slot r = seen-same (is_end slot) (set marks slot false) r refl in
+      elim (cases_Bool (is_end slot r)) [
+        | inr e ↦ rw (now ∙ e) (met-all meets slots rs ends.3 (rw (here ∙ e) at met))
+        | inl e ↦
+            let (one, others) = and_parts _ _ (rw (here ∙ e) at met) in
+            rw (now ∙ e, met-one meets r ends.0 one e, met-all meets slots rs ends.3 others) refl
+      ]
+
+module _ (r : Reach) (slot : ℕ) (book : ForkBook) (old_marks marks : List Bool) (owes : Bool) (h : HasEndedMark r slot book old_marks marks owes) (below : slot < length old_marks) (sound : IsBook book) where
+  -- a walk makes of what is seen now what the rules make of what was seen
+  pub ended-walked : (forks : Bool → ℕ → Fork → Fork) → map (owed_at owes r forks slot) (seen_all marks book.records) ≡ map (walked_at r forks slot) (seen_all old_marks book.records)
+  ended-walked forks = elim (cases_Bool owes) [
+    | inl e ↦ rw (e, h.asks e, h.ended e) (owed-all slot old_marks below (h.was e) forks book.slots book.records sound.ends_are_slots)
+    | inr e ↦ rw e (ap (λ (b : ForkBook). map (walked_at r forks slot) b.records) (h.same e).same)
+  ]
+
+  -- the rules meet what they met
+  pub ended-met : (meets : Bool → Fork → Bool) → list_all (is_met_at r meets slot) (slot_list slot (seen_all old_marks book.records)) ≡ true → list_all (is_met_at r meets slot) (slot_list slot (seen_all marks book.records)) ≡ true
+  ended-met meets met = elim (cases_Bool owes) [
+    | inl e ↦ rw (h.asks e, h.ended e) (met-all slot old_marks below (h.was e) meets book.slots book.records sound.ends_are_slots (rw (h.asks e) at met))
+    | inr e ↦ ap (λ (b : ForkBook). list_all (is_met_at r meets slot) (slot_list slot b.records)) (h.same e).same ∙ met
+  ]
+
+  -- all is tied as it was
+  pub ended-tied : (counts : List Count) (lacking : List Bool) → IsTied book counts old_marks lacking → IsTied book counts marks lacking
+  ended-tied counts lacking t = record {
+    places = t.places;
+    counted = t.counted;
+    marked = elim (cases_Bool owes) [ inl e ↦ rw (h.ended e) (length-set old_marks slot false ∙ t.marked) | inr e ↦ (h.same e).marked ∙ t.marked ];
+    listed = t.listed;
+    lack = t.lack;
+  }
+
+-- ---- a walk's end
 
 -- what passes in each record passes in each that a walk goes on to
 pub all-goes_on : (p : ForkRecord → Bool) (left : ℕ) (next : Option ForkId) (rs : List ForkRecord) → list_all p (rest_of next rs) ≡ true → list_all p (rest_of (if left == 0 then None else next) rs) ≡ true

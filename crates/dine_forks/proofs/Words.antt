@@ -24,7 +24,7 @@ pub use Rattle.dine_forks.specs.Taking.{HasTaken, Records, provided_list, provid
 pub use Rattle.dine_forks.specs.Search.{place_between, records_read, searched_end}
 pub use Rattle.dine_forks.specs.Marks.{IsSeenAlike, dirtied_record, is_marked, own_dirtied_at, own_dirtied_fork, seen_book, seen_record}
 pub use Rattle.dine_forks.specs.Sending.{after, messages_in}
-pub use Rattle.dine_forks.specs.Walking.{CanPut, CanStep, DoMeet, HasStepped, IsTiedBut, IsSided, is_met_at, is_reached, is_reached_at, times_reached, walked_at, walked_book, walked_fork}
+pub use Rattle.dine_forks.specs.Walking.{CanPut, CanStep, DoMeet, HasEndedMark, HasStepped, IsTiedBut, IsSided, is_met_at, is_reached, is_reached_at, owed_at, owed_fork, times_reached, times_walked, walked_at, walked_book, walked_fork}
 
 -- the ids without this one
 abbrev pub without_id : ForkId → List ForkId → List ForkId

@@ -4,10 +4,10 @@ use Rattle.std.specs.List.{list_all}
 use Rattle.dine_forks.specs.declared.record.At.{At}
 use Rattle.dine_forks.specs.declared.rules.Reach.{Reach}
 use Rattle.dine_forks.specs.declared.rules.Reach.TheVariants as reach
-use Rattle.dine_forks.specs.Book.{Fork, ForkBook, ForkRecord, IsAt, Onward, behind, book_with_fork, changed_where, first_id, is_end, other_end, reached, slot_list}
+use Rattle.dine_forks.specs.Book.{Fork, ForkBook, ForkRecord, IsAt, Onward, behind, book_with_fork, changed_where, dirtied, first_id, is_end, other_end, reached, slot_list}
 use Rattle.dine_forks.specs.Counts.{Count, IsTied, is_asked, lacks, one_if}
 use Rattle.dine_forks.specs.Edges.{is_first}
-use Rattle.dine_forks.specs.Marks.{is_marked, seen_book, seen_record}
+use Rattle.dine_forks.specs.Marks.{IsSeenAlike, is_marked, seen_book, seen_record}
 
 -- a walk has to do with a fork whose first end is the slot, or whose second
 abbrev pub is_reached : Reach → Bool → Fork → Bool
@@ -36,6 +36,21 @@ walked_at reach forks slot r = changed_where (is_end slot) (walked_fork reach fo
 -- the book so
 abbrev pub walked_book : Reach → (Bool → ℕ → Fork → Fork) → ℕ → ForkBook → ForkBook
 walked_book reach forks slot book = record book { records = map (walked_at reach forks slot) book.records }
+
+-- the same where the mark of the slot has ended and its forks are yet to be written dirty
+abbrev pub owed_fork : Bool → Reach → (Bool → ℕ → Fork → Fork) → ℕ → ForkRecord → Fork
+owed_fork owes reach forks slot r =
+    if is_reached_at reach slot r then forks (slot == r.first) (other_end slot r) r.fork
+    else if owes then dirtied r.fork
+    else r.fork
+
+-- the record so, if the slot is an end
+abbrev pub owed_at : Bool → Reach → (Bool → ℕ → Fork → Fork) → ℕ → ForkRecord → ForkRecord
+owed_at owes reach forks slot r = changed_where (is_end slot) (owed_fork owes reach forks slot) r
+
+-- 1 if such a walk has to do with it, and else 0
+abbrev pub times_walked : Bool → Reach → ℕ → ForkRecord → ℕ
+times_walked owes reach slot r = one_if (owes || is_reached_at reach slot r)
 
 -- the fork of a record is such as the rules meet, or they don't reach it
 abbrev pub is_met_at : Reach → (Bool → Fork → Bool) → ℕ → ForkRecord → Bool
@@ -79,7 +94,7 @@ pub record IsSided (a b : Fork) : Type 0 where
 -- a walk is at a record, and has still to do with so many, among them this one where it reaches it
 pub record CanStep (reach : Reach) (meets : Bool → Fork → Bool) (at : At) (count : ℕ) (book : ForkBook) (counts : List Count) (marks lacking : List Bool) : Type 0 where
   pub can : CanPut at book counts marks lacking
-  pub left : times_reached reach at.slot at.visited ≤ count
+  pub left : times_walked at.owes reach at.slot at.visited ≤ count
   pub met : is_met_at reach meets at.slot (seen_record marks at.visited) ≡ true
 
 -- it has run the rules there if they reach it, has to do with so many yet, and is told what follows
@@ -91,11 +106,19 @@ pub record HasStepped
   pub off : StaysOff at.slot old_marks marks
   pub book :
       seen_book marks new
-      ≡ book_with_fork at.id (walked_fork reach forks at.slot (seen_record old_marks at.visited)) (seen_book old_marks old)
-  pub left : after + times_reached reach at.slot at.visited ≡ before
+      ≡ book_with_fork at.id (owed_fork at.owes reach forks at.slot (seen_record old_marks at.visited)) (seen_book old_marks old)
+  pub left : after + times_walked at.owes reach at.slot at.visited ≡ before
   pub next : reached old onward ≡ first_id (behind at.id (slot_list at.slot old.records))
 
 -- ---- a whole walk
+
+-- the mark of a slot has ended before a walk that asks for forks. Where the slot has forks, they are yet to be written dirty
+pub record HasEndedMark (r : Reach) (slot : ℕ) (book : ForkBook) (old_marks marks : List Bool) (owes : Bool) : Type 0 where
+  pub off : r ≡ reach.Lacked → is_marked marks slot ≡ false
+  pub same : owes ≡ false → IsSeenAlike book old_marks book marks
+  pub asks : owes ≡ true → r ≡ reach.Lacked
+  pub was : owes ≡ true → is_marked old_marks slot ≡ true
+  pub ended : owes ≡ true → marks ≡ slice_set old_marks slot false
 
 -- the rules know each slot, and meet the fork of each record of the slot that they reach
 pub record CanWalk
