@@ -86,6 +86,10 @@ module _ (at : At) (lists : ForkBook) (counts : List Count) (marks lacking : Lis
         both true x f s = f
         both false x f s = s
 
+-- what is there is seen as it is seen
+pub seen-alike : (lists : ForkBook) (marks : List Bool) → IsSeenAlike lists marks lists marks
+seen-alike lists marks = record { slots = refl; marked = refl; same = refl; counted = λ s. refl }
+
 -- a fork that is seen is at the side where it is written
 pub seen-sided : (marks : List Bool) (r : ForkRecord) → IsSided (seen_record marks r).fork r.fork
 seen-sided marks r = elim (cases_Bool (is_marked marks (holder r))) [ inl e ↦ rw e record { at = refl; token = refl } | inr e ↦ rw e record { at = refl; token = refl } ]

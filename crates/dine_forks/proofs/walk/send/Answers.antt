@@ -1,14 +1,9 @@
-use Rattle.dine_forks.proofs.Lemmas.{◌∙◌, false, sym, refl, IsSeenAlike, can-count, kept-seen, put-seen-at, put-tied, put-used, seen-clean, seen-sided}
-use Rattle.dine_forks.proofs.walk.send.Goals.{After-are_sound}
+use Rattle.dine_forks.proofs.Lemmas.{◌∙◌, false, sym, refl, can-count, kept-seen, put-seen-at, put-tied, put-used, seen-alike, seen-clean, seen-sided}
 use Rattle.dine_forks.proofs.walk.send.Goals as goal
-
--- the lists are seen as they are seen
-alike : (c : After-are_sound) → IsSeenAlike c.args.lists.now c.args.marks.now c.args.lists.now c.args.marks.now
-alike c = record { slots = refl; marked = refl; same = refl; counted = λ s. refl }
 
 pub put-requires-clause-used : goal.put-requires-clause-used
 put-requires-clause-used c =
-    put-used c.args.at.now c.args.lists.now c.args.counts.now c.args.marks.now c.args.lacking.now c.are_sound.ensures c.requires.can c.args.lists.now c.args.marks.now (alike (goal.at.put-requires-clause-used c).After-are_sound) c.are_sound.ensures c.args.had
+    put-used c.args.at.now c.args.lists.now c.args.counts.now c.args.marks.now c.args.lacking.now c.are_sound.ensures c.requires.can c.args.lists.now c.args.marks.now (seen-alike c.args.lists.now c.args.marks.now) c.are_sound.ensures c.args.had
 
 pub put-requires-clause-can : goal.put-requires-clause-can
 put-requires-clause-can c = can-count c.args.at.now c.args.lists.now c.args.counts.now c.args.marks.now c.args.lacking.now c.are_sound.ensures c.requires.can c.args.had (rw c.requires.had (seen-sided c.args.marks.now c.args.at.now.visited))
@@ -24,7 +19,7 @@ returns-in-Nothing c = record {
 -- a token leaves the fork where it is
 pub returns-in-Token : goal.returns-in-Token
 returns-in-Token c =
-    let at = c.args.at.now in let sound = c.are_sound.ensures in let same = alike (goal.at.returns-in-Token c).After-are_sound in
+    let at = c.args.at.now in let sound = c.are_sound.ensures in let same = seen-alike c.args.lists.now c.args.marks.now in
     record {
       tied =
           rw (c.put.ensures.written, c.put.ensures.counts)

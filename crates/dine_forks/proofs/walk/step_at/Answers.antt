@@ -1,4 +1,4 @@
-use Rattle.dine_forks.proofs.Lemmas.{◌≡◌, Fork, IsSeenAlike, IsSided, Some, can-count, dirtied, false, false≢true, is_in_use, is_reached, owns, put-seen-at, put-tied, true, refl, ap, sym, ◌∙◌, arith, book_with_fork, seen_book, other_end_of_used, holder-within, kept-seen, rests, runs}
+use Rattle.dine_forks.proofs.Lemmas.{◌≡◌, Some, can-count, dirtied, false, false≢true, is_reached, owns, seen-alike, put-seen-at, put-tied, refl, ap, sym, ◌∙◌, arith, book_with_fork, seen_book, other_end_of_used, holder-within, kept-seen, rests, runs}
 use Rattle.dine_forks.proofs.Walks.{found-used}
 use Rattle.dine_forks.proofs.walk.step_at.Given.{Over}
 use Rattle.dine_forks.proofs.walk.step_at.Goals.{After-is_reached, After-record-visited}
@@ -42,35 +42,23 @@ returns-then-is_reached g c =
       next = c.onward-onward.ensures;
     }
 
--- the record is as it was read
-used : (g : Over) (c : After-is_reached g) → is_in_use c.args.at.now.id c.args.lists.now.records ≡ true
-used g c = found-used c.args.at.now.id c.args.lists.now.records c.args.at.now.visited c.requires.can.can.listed.found
-
--- the lists are seen as they are seen
-alike : (g : Over) (c : After-is_reached g) → IsSeenAlike c.args.lists.now c.args.marks.now c.args.lists.now c.args.marks.now
-alike g c = record { slots = refl; marked = refl; same = refl; counted = λ s. refl }
-
--- a fork is at its own side
-sided : (f : Fork) → IsSided f f
-sided f = record { at = refl; token = refl }
-
 pub put-requires-clause-used : goal.put-requires-clause-used
-put-requires-clause-used g c = used g (goal.at.put-requires-clause-used g c).After-is_reached
+put-requires-clause-used g c = found-used c.args.at.now.id c.args.lists.now.records c.args.at.now.visited c.requires.can.can.listed.found
 
 pub put-requires-clause-can : goal.put-requires-clause-can
-put-requires-clause-can g c = can-count c.args.at.now c.args.lists.now c.args.counts.now c.args.marks.now c.args.lacking.now c.are_sound.ensures c.requires.can.can c.args.at.now.visited.fork (sided c.args.at.now.visited.fork)
+put-requires-clause-can g c = can-count c.args.at.now c.args.lists.now c.args.counts.now c.args.marks.now c.args.lacking.now c.are_sound.ensures c.requires.can.can c.args.at.now.visited.fork record { at = refl; token = refl }
 
 -- a fork that gets dirty stays where it is
 pub returns-then-at : goal.returns-then-at
 returns-then-at g c =
     let at = c.args.at.now in let reach = g.R.Rules.reach c.args.rules.now in let forks = g.R.Rules.forks c.args.rules.now in
-    let here = (goal.at.returns-then-at g c).After-is_reached in let same = alike g here in let sound = c.are_sound.ensures in let can = c.requires.can.can in
+    let here = (goal.at.returns-then-at g c).After-is_reached in let same = seen-alike c.args.lists.now c.args.marks.now in let sound = c.are_sound.ensures in let can = c.requires.can.can in
     let is = owns at.owes reach forks at.slot c.args.marks.now at.visited c.is_first.result (c.is_first.ensures ∙ can.end) (rw (← c.reach.ensures) (sym (told g here) ∙ c.if-is_reached.false)) c.if-at.true in
     record {
       tied =
           rw (c.put.ensures.written, c.put.ensures.counts)
           (put-tied at c.args.lists.now c.args.counts.now c.args.marks.now c.args.lacking.now sound can c.args.lists.now c.args.marks.now same sound (dirtied at.visited.fork)
-          at.visited.fork (sided at.visited.fork) false (λ lacked has. sym has ∙ lacked));
+          at.visited.fork record { at = refl; token = refl } false (λ lacked has. sym has ∙ lacked));
       slots = rw c.put.ensures.written refl;
       off = λ is. is;
       book =

@@ -3,8 +3,8 @@ use Rattle.dine_forks.proofs.walk.walk.Given.{Over}
 use Rattle.dine_forks.proofs.walk.walk.Goals.{After-to_do-left, After-record-visited, After-step-onward}
 use Rattle.dine_forks.proofs.walk.walk.Goals as goal
 
-pub reached_of-requires-clause-count : goal.reached_of-requires-clause-count
-reached_of-requires-clause-count g c = c.requires.tied.counted c.args.slot c.requires.within
+pub to_do-requires-clause-count : goal.to_do-requires-clause-count
+to_do-requires-clause-count g c = c.requires.tied.counted c.args.slot c.requires.within
 
 pub end_mark-owes-requires-clause-lacked : goal.end_mark-owes-requires-clause-lacked
 end_mark-owes-requires-clause-lacked g c = ap (λ (n : Count). n.lacked) (c.requires.tied.counted c.args.slot c.requires.within)
@@ -130,11 +130,11 @@ returns g c =
       book = (λ i. record { slots = ch.slots i; room = ch.room i; records = (ch.records ∙ ended-walked reach slot lists c.args.marks.now marks owes ended below c.are_sound.ensures forks) i });
     }
 
-pub returns-then-reached_of-eq0 : goal.returns-then-reached_of-eq0
-returns-then-reached_of-eq0 g c =
+pub returns-then-to_do-eq0 : goal.returns-then-to_do-eq0
+returns-then-to_do-eq0 g c =
     let reach = g.R.Rules.reach c.args.rules.now in let slot = c.args.slot in
     let seen = seen_book c.args.marks.now c.args.lists.now in
-    let left : sum_by (times_walked false reach slot) (slot_list slot c.args.lists.now.records) ≡ 0 = rw (← c.reach-reach.ensures) (sym c.reached_of.ensures ∙ c.if-reached_of-eq0.true) in
+    let left : sum_by (times_walked false reach slot) (slot_list slot c.args.lists.now.records) ≡ 0 = rw (← c.reach-reach.ensures) (sym c.to_do.ensures ∙ c.if-to_do-eq0.true) in
     record {
       tied = c.requires.tied;
       slots = refl;
