@@ -1,5 +1,5 @@
 -- A walk of a slot's list that runs rules at its records: one step, and what is left.
-use Rattle.dine_forks.proofs.Words.{◌≡◌, ◌≢◌, ◌||◌, subst, ℕ, ◌<◌, Bool, true, false, not, and_parts, is_met_at, IsTied, length-set, one_if, HasEndedMark, owed_at, owed_fork, times_walked, beq, eqb, List, [], ◌∷◌, length, map, list_all, set, None, Some, Option, if◌then◌else◌, ◌==◌, inl, inr, refl, sym, ap, ◌∙◌, arith, cases_Bool, eqb-true, nat_tests, sum_by, sum_by-cons, Fork, ForkId, ForkRecord, ForkBook, IsBook, EachIdOnce, EndsAreSlots, Onward, behind, book_with_fork, first_id, is_end, is_in_use, other_end, reached, record_of, slot_list, end_with, holder, dirtied, option_map, CanCount, CanPut, Count, IsCounted, IsTiedBut, IsSeenAlike, IsSided, both_recounted, recounted, count_at, count_in, is_marked, is_reached, is_reached_at, lacks, relieved, seen_book, seen_record, times_reached, walked_at, walked_fork, false≢true}
+use Rattle.dine_forks.proofs.Words.{◌≡◌, ◌≢◌, ◌||◌, ◌≤◌, is_asked, no_count, set-get_or, subst, ℕ, ◌<◌, Bool, true, false, not, and_parts, is_met_at, IsTied, length-set, one_if, HasEndedMark, owed_at, owed_fork, times_walked, beq, eqb, List, [], ◌∷◌, length, map, list_all, set, None, Some, Option, if◌then◌else◌, ◌==◌, inl, inr, refl, sym, ap, ◌∙◌, arith, cases_Bool, eqb-true, nat_tests, sum_by, sum_by-cons, Fork, ForkId, ForkRecord, ForkBook, IsBook, EachIdOnce, EndsAreSlots, Onward, behind, book_with_fork, first_id, is_end, is_in_use, other_end, reached, record_of, slot_list, end_with, holder, dirtied, option_map, CanCount, CanPut, Count, IsCounted, IsTiedBut, IsSeenAlike, IsSided, both_recounted, recounted, count_at, count_in, is_marked, is_reached, is_reached_at, lacks, relieved, seen_book, seen_record, times_reached, walked_at, walked_fork, false≢true}
 use Rattle.dine_forks.specs.declared.record.At.{At}
 use Rattle.dine_forks.specs.Edges.{is_first}
 use Rattle.dine_forks.specs.Sending.{after}
@@ -89,6 +89,15 @@ module _ (at : At) (lists : ForkBook) (counts : List Count) (marks lacking : Lis
 -- what is there is seen as it is seen
 pub seen-alike : (lists : ForkBook) (marks : List Bool) → IsSeenAlike lists marks lists marks
 seen-alike lists marks = record { slots = refl; marked = refl; same = refl; counted = λ s. refl }
+
+-- a fork that gets dirty stays in each count
+recount-same : (first : Bool) (had : Fork) (c : Count) → one_if (lacks first had) ≤ c.lacked → one_if (is_asked first had) ≤ c.asked → recounted first (had) (dirtied had) c ≡ c
+recount-same first had c lacked asked = grind (arith)
+
+-- so both counts stay
+pub both-same : (first : Bool) (slot other : ℕ) (had : Fork) (counts : List Count) → CanCount first slot other had counts → both_recounted first slot other had (dirtied had) counts ≡ counts
+both-same first slot other had counts h =
+    rw (recount-same first had (count_at counts slot) h.here.lacked h.here.asked, recount-same (not first) had (count_at counts other) h.there.lacked h.there.asked, set-get_or counts slot no_count, set-get_or counts other no_count) refl
 
 -- a fork that is seen is at the side where it is written
 pub seen-sided : (marks : List Bool) (r : ForkRecord) → IsSided (seen_record marks r).fork r.fork

@@ -1,4 +1,4 @@
-use Rattle.dine_forks.proofs.Lemmas.{◌≡◌, Some, can-count, dirtied, false, false≢true, is_reached, owns, seen-alike, put-seen-at, put-tied, refl, ap, sym, ◌∙◌, arith, book_with_fork, seen_book, other_end_of_used, holder-within, kept-seen, rests, runs}
+use Rattle.dine_forks.proofs.Lemmas.{◌≡◌, Count, IsTiedBut, List, Some, both-same, can-count, is_first, other_end, subst, dirtied, false, false≢true, is_reached, owns, seen-alike, put-seen-at, put-tied, refl, ap, sym, ◌∙◌, arith, book_with_fork, seen_book, other_end_of_used, holder-within, kept-seen, rests, runs}
 use Rattle.dine_forks.proofs.Walks.{found-used}
 use Rattle.dine_forks.proofs.walk.step_at.Given.{Over}
 use Rattle.dine_forks.proofs.walk.step_at.Goals.{After-is_reached, After-record-visited}
@@ -42,11 +42,8 @@ returns-then-is_reached g c =
       next = c.onward-onward.ensures;
     }
 
-pub put-requires-clause-used : goal.put-requires-clause-used
-put-requires-clause-used g c = found-used c.args.at.now.id c.args.lists.now.records c.args.at.now.visited c.requires.can.can.listed.found
-
-pub put-requires-clause-can : goal.put-requires-clause-can
-put-requires-clause-can g c = can-count c.args.at.now c.args.lists.now c.args.counts.now c.args.marks.now c.args.lacking.now c.are_sound.ensures c.requires.can.can c.args.at.now.visited.fork record { at = refl; token = refl }
+pub write-requires : goal.write-requires
+write-requires g c = found-used c.args.at.now.id c.args.lists.now.records c.args.at.now.visited c.requires.can.can.listed.found
 
 -- a fork that gets dirty stays where it is
 pub returns-then-at : goal.returns-then-at
@@ -56,13 +53,15 @@ returns-then-at g c =
     let is = owns at.owes reach forks at.slot c.args.marks.now at.visited c.is_first.result (c.is_first.ensures ∙ can.end) (rw (← c.reach.ensures) (sym (told g here) ∙ c.if-is_reached.false)) c.if-at.true in
     record {
       tied =
-          rw (c.put.ensures.written, c.put.ensures.counts)
+          rw c.write.ensures
+          (subst (λ (cs : List Count). IsTiedBut at.slot (book_with_fork at.id (dirtied at.visited.fork) c.args.lists.now) cs c.args.marks.now c.args.lacking.now)
+          (both-same (is_first at.end) at.slot (other_end at.slot at.visited) at.visited.fork c.args.counts.now (can-count at c.args.lists.now c.args.counts.now c.args.marks.now c.args.lacking.now sound can at.visited.fork record { at = refl; token = refl }))
           (put-tied at c.args.lists.now c.args.counts.now c.args.marks.now c.args.lacking.now sound can c.args.lists.now c.args.marks.now same sound (dirtied at.visited.fork)
-          at.visited.fork record { at = refl; token = refl } false (λ lacked has. sym has ∙ lacked));
-      slots = rw c.put.ensures.written refl;
+          at.visited.fork record { at = refl; token = refl } false (λ lacked has. sym has ∙ lacked)));
+      slots = rw c.write.ensures refl;
       off = λ is. is;
       book =
-          rw c.put.ensures.written
+          rw c.write.ensures
           (put-seen-at at c.args.lists.now c.args.counts.now c.args.marks.now c.args.lacking.now sound can c.args.lists.now c.args.marks.now same sound (dirtied at.visited.fork) (λ clean. absurd (false≢true (sym clean))))
           ∙ ap (λ f. book_with_fork at.id f (seen_book c.args.marks.now c.args.lists.now)) (sym is.0);
       left = (let some = c.requires.can.left in let one = is.1 in omega arith);
