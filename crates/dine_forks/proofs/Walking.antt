@@ -217,14 +217,10 @@ walked-start owes reach slot left marks book is = ap (sum_by (times_walked owes 
 -- ---- the mark of the slot has ended
 
 module _ (slot : ℕ) (marks : List Bool) (below : slot < length marks) (was : is_marked marks slot ≡ true) where
-  -- the mark was that of the holder
-  was-at : (r : ForkRecord) → eqb slot (holder r) ≡ true → is_marked marks (holder r) ≡ true
-  was-at r e = subst (λ k. is_marked marks k ≡ true) (eqb-true slot (holder r) e) was
-
   -- what the rules make of a record by what was seen is made of what is seen now, where the forks of the slot get dirty
   owed-one : (forks : Bool → ℕ → Fork → Fork) (r : ForkRecord) → r.first ≢ r.second → owed_at true reach.Lacked forks slot (seen_record (set marks slot false) r) ≡ walked_at reach.Lacked forks slot (seen_record marks r)
   owed-one forks r differ = elim (cases_Bool (eqb slot (holder r))) [
-    | inl e ↦ rw (marked-same marks slot (holder r) false below e, was-at r e) (grind (arith, nat_tests, e, differ))
+    | inl e ↦ rw (marked-same marks slot (holder r) false below e, subst (λ k. is_marked marks k ≡ true) (eqb-true slot (holder r) e) was) (grind (arith, nat_tests, e, differ))
     | inr e ↦ rw (marked-other marks slot (holder r) false e) (elim (cases_Bool (is_marked marks (holder r))) [ inl m ↦ rw m (grind (arith, nat_tests, e, differ)) | inr m ↦ rw m (grind (arith, nat_tests, e, differ)) ])
   ]
 

@@ -40,9 +40,7 @@ walked_book reach forks slot book = record book { records = map (walked_at reach
 -- the same where the mark of the slot has ended and its forks are yet to be written dirty
 abbrev pub owed_fork : Bool → Reach → (Bool → ℕ → Fork → Fork) → ℕ → ForkRecord → Fork
 owed_fork owes reach forks slot r =
-    if is_reached_at reach slot r then forks (slot == r.first) (other_end slot r) r.fork
-    else if owes then dirtied r.fork
-    else r.fork
+    if is_reached_at reach slot r then forks (slot == r.first) (other_end slot r) r.fork else if owes then dirtied r.fork else r.fork
 
 -- the record so, if the slot is an end
 abbrev pub owed_at : Bool → Reach → (Bool → ℕ → Fork → Fork) → ℕ → ForkRecord → ForkRecord
