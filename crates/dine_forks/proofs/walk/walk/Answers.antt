@@ -1,6 +1,6 @@
 use Rattle.dine_forks.proofs.Lemmas.{Count, HasEndedMark, rules, ◌<◌, ended-met, ended-tied, ended-walked, owed_at, owed_fork, owed-idle, times_walked, walked-seen, walked-start, ForkRecord, List, false, and_parts, list_all, is_met_at, ◌∷◌, ◌≡◌, length, refl, sym, ap, ◌∙◌, arith, sum_by, length-set, sum_by-cons, behind, first_id, is_end, reached, slot_list, seen_book, seen_record, first-seen, is_in_use-seen, listed-seen, once-seen, seen_all, seen-same, settled, taken-out, all-goes_on, found-seen, seen-on, walk-idle, IsChanging, Visits, at-record, at-visit, changing-goes_on, changing-start, goes-on_some, length-goes_on, rest_of, rest-start, sum-goes_on}
 use Rattle.dine_forks.proofs.walk.walk.Given.{Over}
-use Rattle.dine_forks.proofs.walk.walk.Goals.{After-to_do-left, After-record-visited, After-step-onward}
+use Rattle.dine_forks.proofs.walk.walk.Goals.{After-record-visited, After-step-onward}
 use Rattle.dine_forks.proofs.walk.walk.Goals as goal
 
 pub to_do-requires-clause-count : goal.to_do-requires-clause-count
@@ -12,15 +12,11 @@ end_mark-owes-requires-clause-lacked g c = ap (λ (n : Count). n.lacked) (c.requ
 pub to_do-left-requires-clause-count : goal.to_do-left-requires-clause-count
 to_do-left-requires-clause-count g c = c.requires.tied.counted c.args.slot c.requires.within
 
--- the slot has a mark, set or not
-marked : (g : Over) (c : After-to_do-left g) → c.args.slot < length c.args.marks.now
-marked g c = rw c.requires.tied.marked c.requires.within
-
 pub loop-next-init : goal.loop-next-init
 loop-next-init g c =
     let reach = g.R.Rules.reach c.args.rules.now in let forks = g.R.Rules.forks c.args.rules.now in
     let slot = c.args.slot in let lists = c.args.lists.now in let marks = c.end_mark-owes.new.marks in let seen = seen_all marks lists.records in
-    let owes = c.end_mark-owes.result in let below = marked g (goal.at.loop-next-init g c).After-to_do-left in
+    let owes = c.end_mark-owes.result in let below : slot < length c.args.marks.now = rw c.requires.tied.marked c.requires.within in
     let ended : HasEndedMark reach slot lists c.args.marks.now marks owes = rw (← c.reach-reach.ensures) c.end_mark-owes.ensures in
     let left : sum_by (times_walked owes reach slot) (slot_list slot lists.records) ≡ c.to_do-left.result = rw (← c.reach-reach.ensures) (sym c.to_do-left.ensures) in
     let first = c.first_of-next.ensures.first ∙ sym (first-seen marks slot lists.records) in
@@ -121,7 +117,7 @@ pub returns : goal.returns
 returns g c =
     let reach = g.R.Rules.reach c.args.rules.now in let forks = g.R.Rules.forks c.args.rules.now in
     let slot = c.args.slot in let lists = c.args.lists.now in let marks = c.end_mark-owes.new.marks in let owes = c.end_mark-owes.result in
-    let below = marked g (goal.at.returns g c).After-to_do-left in
+    let below : slot < length c.args.marks.now = rw c.requires.tied.marked c.requires.within in
     let ended : HasEndedMark reach slot lists c.args.marks.now marks owes = rw (← c.reach-reach.ensures) c.end_mark-owes.ensures in
     let ch = rw c.in_default.is at c.loop-next.invariant.changing in
     record {
