@@ -1,54 +1,22 @@
--- A script as a command: what it prints for lines as they are seen, and where they leave it.
-use Rattle.std.proofs.Common.{◌≡◌, ℕ, ◌==◌, ◌+◌, ◌-◌, nat_lt, Bool, true, false, if◌then◌else◌, List, [], ◌∷◌, ◌++◌, length, map, take, Some, None, inl, inr, refl, sym, ap, ◌∙◌, append-nil, zero-add, arith}
+-- A script as a command: what it prints for an input, and where that leaves it.
+use Rattle.std.proofs.Common.{◌≡◌, ℕ, ◌==◌, ◌-◌, Bool, false, ◌||◌, List, [], ◌∷◌, ◌++◌, length, map, take, Option, IfSome, inl, inr, refl, sym, ap, ◌∙◌, subst, append-nil}
 use Rattle.std.proofs.lemmas.Bool.{cases_Bool}
 use Rattle.std.proofs.lemmas.List.{map-append, take-append-drop}
-use Rattle.dine_lines.specs.Names.{Names}
 use Rattle.dine_lines.specs.Lines.{lines_of, onto_first}
+use Rattle.dine_lines.specs.declared.print.Print.{Print}
+use Rattle.dine_lines.specs.declared.print.Print.TheVariants.{Replies, Journal}
+use Rattle.dine_streams.specs.Ending.{end_of}
 use Rattle.dine_streams.specs.Lines.{begun_line, ended_lines, kept_of, seen_lines, seen_of}
 use Rattle.dine_streams.specs.Machines.{Takes, left_by, printed_for, printed_from, standing_after}
-use Rattle.dine_streams.proofs.CallerLemmas.{ended-left, seen-kept}
-use Rattle.dine_words.specs.Texts.{text_of_lines}
-use Rattle.dine_script.specs.Commands.{reading_of}
-use Rattle.dine_script.specs.Machines.{Script, after_seen, after_unended, prints_seen, prints_unended, reading_seen, script_after, scripts}
-use Rattle.dine_lines.specs.declared.print.Print.{Print}
+use Rattle.dine_streams.proofs.CallerLemmas.{ended-left, of_known, printed_from-append, seen-kept}
 use Rattle.dine_words.specs.declared.limits.Limits.{Limits}
-use Rattle.dine_script.specs.Printed.{TakesLines, opening_lines, printed_of}
-use Rattle.dine_script.specs.Printed as printed
-use Rattle.dine_script.specs.Script.{Session, after_reading, faults_from, has_fault_from, is_fault, opening, output_lines, script_output, standing_from}
-use Rattle.dine_script.proofs.PrintedLines.{lines-printed, text-printed}
-use Rattle.dine_script.proofs.Steps.{some_faults}
-use Rattle.dine_script.proofs.Fronts.{faults_from-append, printed_from-append}
-
--- a line asks for the same as it is seen
-pub seen-reading : (names : Names) (line : List ℕ) → reading_seen names (seen_of line) ≡ reading_of names line
-seen-reading names line = by (nat_lt 4096 (length line)) refl
-  where
-    by : (long : Bool) → nat_lt 4096 (length line) ≡ long → reading_seen names (if long then None else Some line) ≡ reading_of names line
-    by true e = rw e refl
-    by false e = refl
-
-together : (a b c : ℕ) → a + b + c ≡ a + (b + c)
-together a b c = omega arith
-
--- where lines leave a script
-abbrev pub left_at : Script → List (List ℕ) → Script
-left_at s lines = record s { session = standing_from s.session lines; faults = s.faults + faults_from s.session lines }
-
--- what is printed for lines
-pub printed-seen : (s : Script) (lines : List (List ℕ)) → printed_from scripts s (map seen_of lines) ≡ printed.printed_from s.print s.session lines
-printed-seen s [] = refl
-printed-seen s (line ∷ lines) =
-    ap (λ r. printed_of s.print s.session r ++ printed_from scripts (script_after s r) (map seen_of lines)) (seen-reading s.session.names line)
-    ∙ ap (λ l. printed_of s.print s.session (reading_of s.session.names line) ++ l) (printed-seen (script_after s (reading_of s.session.names line)) lines)
-
--- where they leave it
-pub left-seen : (s : Script) (lines : List (List ℕ)) → left_by scripts s (map seen_of lines) ≡ left_at s lines
-left-seen s [] = ap (λ n. record s { faults = n }) (let none : s.faults ≡ s.faults + 0 = omega arith in none)
-left-seen s (line ∷ lines) =
-    let reading = reading_of s.session.names line in
-    ap (λ r. left_by scripts (script_after s r) (map seen_of lines)) (seen-reading s.session.names line)
-    ∙ left-seen (script_after s reading) lines
-    ∙ ap (λ n. record s { session = standing_from (after_reading s.session reading) lines; faults = n }) (together s.faults (if is_fault reading then 1 else 0) (faults_from (after_reading s.session reading) lines))
+use Rattle.dine_words.specs.Texts.{entry_text, header_text, text_of_lines}
+use Rattle.dine_words.specs.Versions.{written_version}
+use Rattle.dine_script.specs.Commands.{reading_of}
+use Rattle.dine_script.specs.Printed.{TakesLines, standing}
+use Rattle.dine_script.specs.Script.{Script, Session, after_reading, after_unended, at_first, entries_from, entries_of, is_fault, opening, opening_lines, output_lines, printed_of, prints_seen, prints_unended, reading_seen, script_after, script_end, script_history, script_output, scripts}
+use Rattle.dine_script.proofs.Fronts.{seen-reading}
+use Rattle.dine_script.proofs.JournalLines.{journal_lines-all, printed_of-journal}
 
 -- ---- the lines of a text
 
@@ -74,53 +42,74 @@ lines-ended (x ∷ text) = elim (cases_Bool (x == 10)) [
   | inr e ↦ rw e (ap (onto_first x) (lines-ended text) ∙ sym (onto-begun x [] text))
 ]
 
--- ---- an input
+-- ---- what is printed
 
--- what is printed for a last line, by what is kept of it
-last-printed : (s : Script) (begun : List ℕ) → prints_unended s (kept_of begun) ≡ printed.printed_from s.print s.session (last_line begun)
-last-printed s [] = refl
-last-printed s (x ∷ xs) =
-    ap (λ o. prints_seen s o) (seen-kept (x ∷ xs))
-    ∙ ap (printed_of s.print s.session) (seen-reading s.session.names (x ∷ xs))
-    ∙ sym (append-nil (printed_of s.print s.session (reading_of s.session.names (x ∷ xs))))
-
--- and how many faults it leaves
-last-left : (s : Script) (begun : List ℕ) → (after_unended s (kept_of begun)).faults ≡ s.faults + faults_from s.session (last_line begun)
-last-left s [] = omega arith
-last-left s (x ∷ xs) =
-    ap (λ o. (after_seen s o).faults) (seen-kept (x ∷ xs))
-    ∙ ap (λ r. (script_after s r).faults) (seen-reading s.session.names (x ∷ xs))
-    ∙ more s.faults (if is_fault (reading_of s.session.names (x ∷ xs)) then 1 else 0)
+-- for an input is what is printed for its lines
+printed-lines : (s : Script) (input : List ℕ) → printed_for scripts s input ≡ printed_from scripts s (map seen_of (lines_of input))
+printed-lines s input =
+    let ended = ended_lines [] input in
+    let begun = begun_line [] input in
+    ap (λ l. printed_from scripts s (map seen_of ended) ++ l) (last (left_by scripts s (map seen_of ended)) begun)
+    ∙ sym (printed_from-append scripts s (map seen_of ended) (map seen_of (last_line begun)))
+    ∙ ap (printed_from scripts s) (sym (map-append seen_of ended (last_line begun)) ∙ ap (map seen_of) (sym (lines-ended input)))
   where
-    more : (a b : ℕ) → a + b ≡ a + (b + 0)
-    more a b = omega arith
+    -- a last line, by what is kept of it
+    last : (t : Script) (begun : List ℕ) → prints_unended t (kept_of begun) ≡ printed_from scripts t (map seen_of (last_line begun))
+    last t [] = refl
+    last t (x ∷ xs) = ap (prints_seen t) (seen-kept (x ∷ xs)) ∙ sym (append-nil (prints_seen t (seen_of (x ∷ xs))))
 
--- what is printed for an input is what is printed of its lines
-pub script-printed : (s : Script) (input : List ℕ) → printed_for scripts s input ≡ printed.printed_from s.print s.session (lines_of input)
-script-printed s input =
-    let ended = ended_lines [] input in
-    let begun = begun_line [] input in
-    ap (λ l. l ++ prints_unended (left_by scripts s (map seen_of ended)) (kept_of begun)) (printed-seen s ended)
-    ∙ ap (λ t. printed.printed_from s.print s.session ended ++ prints_unended t (kept_of begun)) (left-seen s ended)
-    ∙ ap (λ l. printed.printed_from s.print s.session ended ++ l) (last-printed (left_at s ended) begun)
-    ∙ sym (printed_from-append s.print s.session ended (last_line begun))
-    ∙ ap (printed.printed_from s.print s.session) (sym (lines-ended input))
+-- in a journal, the entries of the lines
+printed-journal : (s : Session) (had : Bool) (lines : List (List ℕ)) → printed_from scripts (standing Journal s had) (map seen_of lines) ≡ map entry_text (entries_from s lines)
+printed-journal s had [] = refl
+printed-journal s had (line ∷ lines) =
+    let reading = reading_of s.names line in
+    let next = after_reading s reading in
+    let more = had || is_fault reading in
+    ap (λ r. printed_of Journal s r ++ printed_from scripts (script_after (standing Journal s had) r) (map seen_of lines)) (seen-reading s.names line)
+    ∙ ap (λ l. l ++ printed_from scripts (standing Journal next more) (map seen_of lines)) (printed_of-journal s reading)
+    ∙ ap (λ l. map entry_text (entries_of s reading) ++ l) (printed-journal next more lines)
+    ∙ sym (map-append entry_text (entries_of s reading) (entries_from next lines))
 
--- and so many of these have a fault
-pub script-faults : (s : Script) (input : List ℕ) → (standing_after scripts s input).faults ≡ s.faults + faults_from s.session (lines_of input)
-script-faults s input =
-    let ended = ended_lines [] input in
-    let begun = begun_line [] input in
-    ap (λ t. (after_unended t (kept_of begun)).faults) (left-seen s ended)
-    ∙ last-left (left_at s ended) begun
-    ∙ together s.faults (faults_from s.session ended) (faults_from (standing_from s.session ended) (last_line begun))
-    ∙ ap (λ n. s.faults + n) (sym (faults_from-append s.session ended (last_line begun)) ∙ ap (faults_from s.session) (sym (lines-ended input)))
+-- what is printed first and for an input are the output lines
+output-printed : (limits : Limits) (print : Print) (input : List ℕ) → opening_lines print limits ++ printed_for scripts (at_first limits print) input ≡ output_lines print limits input
+output-printed limits Replies input = refl
+output-printed limits Journal input =
+    ap (λ l. header_text written_version limits ∷ l) (printed-lines (at_first limits Journal) input ∙ printed-journal (opening limits) false (lines_of input))
+
+-- and their text is the output
+text-printed : (limits : Limits) (print : Print) (input : List ℕ) → text_of_lines (opening_lines print limits ++ printed_for scripts (at_first limits print) input) ≡ script_output print limits input
+text-printed limits Replies input = refl
+text-printed limits Journal input = ap text_of_lines (output-printed limits Journal input) ∙ journal_lines-all limits (script_history limits input)
+
+-- ---- a run
+
+-- what is known of what is written is known of the output lines
+pub lines-known : (limits : Limits) (print : Print) (input : Option (List ℕ)) (Wrote : List (List ℕ) → Type 0) → IfSome input (λ bytes. Wrote (opening_lines print limits ++ printed_for scripts (at_first limits print) bytes)) → IfSome input (λ bytes. Wrote (output_lines print limits bytes))
+lines-known limits print input Wrote = of_known input _ _ (λ bytes. subst Wrote (output-printed limits print bytes))
+
+-- and of their text
+pub text-known : (limits : Limits) (print : Print) (input : Option (List ℕ)) (Wrote : List ℕ → Type 0) → IfSome input (λ bytes. Wrote (text_of_lines (opening_lines print limits ++ printed_for scripts (at_first limits print) bytes))) → IfSome input (λ bytes. Wrote (script_output print limits bytes))
+text-known limits print input Wrote = of_known input _ _ (λ bytes. subst Wrote (text-printed limits print bytes))
+
+-- whatever is printed, lines have a fault or none has
+faults-left : (print other : Print) (s : Session) (had : Bool) (lines : List (Option (List ℕ))) (begun : List ℕ) → (after_unended (left_by scripts (standing print s had) lines) begun).has_fault ≡ (after_unended (left_by scripts (standing other s had) lines) begun).has_fault
+faults-left print other s had [] [] = refl
+faults-left print other s had [] (x ∷ xs) = refl
+faults-left print other s had (line ∷ lines) begun =
+    let reading = reading_seen s.names line in
+    faults-left print other (after_reading s reading) (had || is_fault reading) lines begun
+
+-- so a script ends as they tell
+pub end-told : (limits : Limits) (print : Print) (input : List ℕ) (s : Script) → s ≡ standing_after scripts (at_first limits print) input → end_of s.has_fault ≡ script_end limits input
+end-told limits print input s is =
+    ap (λ (t : Script). end_of t.has_fault) is
+    ∙ ap end_of (faults-left print Replies (opening limits) false (seen_lines [] input) (kept_of (begun_line [] input)))
 
 -- ---- lines at the front of a text
 
 -- those that were carried out were taken, whatever their faults
-pub script-takes : (s : Script) (t : Session) (text rest before after : List ℕ) (faults : ℕ) → begun_line [] text ≡ [] → TakesLines s.print s.session t text rest before after faults → Takes scripts s (record s { session = t; faults = s.faults + faults }) text rest before after
-script-takes s t text rest before after faults whole lines =
+pub script-takes : (s : Script) (t : Session) (text rest before after : List ℕ) (fault : Bool) → begun_line [] text ≡ [] → TakesLines s.print s.session t text rest before after fault → Takes scripts s (record s { session = t; has_fault = s.has_fault || fault }) text rest before after
+script-takes s t text rest before after fault whole lines =
     let done = lines.takes.done in
     let gone : ℕ = length text - length rest in
     let whole_rest : begun_line [] rest ≡ [] = ap (begun_line []) lines.left ∙ ended-left gone text whole in
@@ -134,29 +123,6 @@ script-takes s t text rest before after faults whole lines =
         seen = ended text whole ∙ ap (map seen_of) lines.takes.cut ∙ map-append seen_of done (lines_of rest) ∙ ap (λ l. map seen_of done ++ l) (sym (ended rest whole_rest));
         begun = whole_rest ∙ sym whole;
       };
-      leaves =
-          ap (λ u. record s { session = u; faults = s.faults + faults }) lines.takes.stands
-          ∙ ap (λ n. record s { session = standing_from s.session done; faults = s.faults + n }) lines.takes.counted
-          ∙ sym (left-seen s done);
-      printed = lines.takes.output ∙ ap (λ l. before ++ text_of_lines l) (sym (printed-seen s done));
+      leaves = lines.takes.leaves s.has_fault;
+      printed = lines.takes.output s.has_fault;
     }
-
--- ---- a run
-
-module _ (print : Print) (limits : Limits) where
-  abbrev at_first : Script
-  at_first = record { session = opening limits; print = print; faults = 0 }
-
-  -- what is printed from the opening on is the script's output
-  pub all-lines : (input : List ℕ) → opening_lines print limits ++ printed_for scripts at_first input ≡ output_lines print limits input
-  all-lines input = ap (λ l. opening_lines print limits ++ l) (script-printed at_first input) ∙ lines-printed print limits input
-
-  pub all-text : (input : List ℕ) → text_of_lines (opening_lines print limits ++ printed_for scripts at_first input) ≡ script_output print limits input
-  all-text input = ap text_of_lines (all-lines input) ∙ text-printed print limits input
-
-  -- a fault is counted where a line has one
-  pub has-fault : (now : Script) (input : List ℕ) → now ≡ standing_after scripts at_first input → nat_lt 0 now.faults ≡ has_fault_from (opening limits) (lines_of input)
-  has-fault now input is =
-      ap (λ (s : Script). nat_lt 0 s.faults) is
-      ∙ ap (nat_lt 0) (script-faults at_first input ∙ zero-add (faults_from (opening limits) (lines_of input)))
-      ∙ some_faults (opening limits) (lines_of input)

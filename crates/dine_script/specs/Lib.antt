@@ -3,4 +3,3 @@ pub mod Commands
 pub mod Script
 pub mod Printed
 pub mod Streams
-pub mod Machines

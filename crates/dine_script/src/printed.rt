@@ -5,7 +5,7 @@ ghost use Rattle.std.specs.Prelude.{◌≡◌, ◌++◌, ◌∷◌, [], IfOk, On
 ghost use Rattle.std.specs.Option.{option_map};
 ghost use mathlib.Core.List.{IsPrefix};
 ghost use Rattle.dine_lines.specs.Faults.{fault_text};
-ghost use Rattle.dine_script.specs.Printed.{call_line, lines_beside, opening_lines};
+ghost use Rattle.dine_script.specs.Script.{call_line, lines_beside, opening_lines};
 ghost use Rattle.dine_lines.specs.Answers.{state_or_none, task_or_none, tasks_or_none};
 ghost use Rattle.dine_words.specs.Texts.{text_of_lines};
 

@@ -1,9 +1,8 @@
 //! A script as a command over its lines, and a run of it.
 
-ghost use Rattle.std.specs.Prelude.{◌≡◌, ◌≢◌, ◌+◌, ◌<◌, Err, IfOk, IfSome, OnErr, OnOk};
+ghost use Rattle.std.specs.Prelude.{◌≡◌, ◌≢◌, ◌<◌, ◌||◌, Err, IfOk, IfSome, OnErr, OnOk};
 ghost use Rattle.std.specs.Io.KnownBytes.{Appends, Keeps};
-ghost use Rattle.dine_script.specs.Machines.{scripts};
-ghost use Rattle.dine_script.specs.Script.{opening as session_at_first, output_lines, script_end, script_output};
+ghost use Rattle.dine_script.specs.Script.{at_first, output_lines, script_end, script_output, scripts};
 ghost use Rattle.dine_streams.specs.Inputs.{IsReadWhole};
 ghost use Rattle.dine_streams.specs.Written.{AppendsLinesOf, AppendsPartOf};
 ghost use Rattle.dine_script.specs.Streams.{IsMarked, IsMarkedOrLong};
@@ -24,49 +23,45 @@ use std::marker::Model;
 struct Script {
     session: Session,
     print: Print,
-    // How many lines have a fault.
-    faults: usize,
+    // Whether a line had a fault.
+    has_fault: bool,
     remarks: FaultRemarks,
 }
 
 impl Model for Script {
-    ghost use Rattle.dine_script.specs.Machines.{Script as Standing};
+    ghost use Rattle.dine_script.specs.Script.{Script as Standing};
 
     ghost Value = { Standing };
 
     ghost view = { λ script. record {
       session = script.session;
       print = script.print;
-      faults = script.faults;
+      has_fault = script.has_fault;
     } };
 }
 
 impl Script {
     // A script of which no line was carried out.
     fn new(alloc: Global, limits: Limits, print: Print, seed: Seed) -> Result<Script, AllocError>
-        ensures { IfOk result (λ script. script ≡
-            record { session = session_at_first limits; print = print; faults = 0 }) }
+        ensures { IfOk result (λ script. script ≡ at_first limits print) }
     {
         Ok(Script {
             session: Session::new(alloc, limits, seed)?,
             print,
-            faults: 0,
+            has_fault: false,
             remarks: FaultRemarks::new(alloc),
         })
     }
 
-    // Counts so many faults of the first line of a text, which was carried out last, and notes what is wrong with it. An
-    // error is that no more can be counted.
-    #[inline(never)]
-    fn note_fault(&mut self, text: &[u8], faulty: usize) -> Result<(), AllocError>
-        ensures { OnOk result (self.new ≡ record self.old { faults = self.old.faults + faulty }) }
+    // Notes what is wrong with the first line of a text, which was carried out last, where it has a fault.
+    #[inline(always)]
+    fn look(&mut self, text: &[u8], fault: bool)
+        ensures { self.new ≡ record self.old { has_fault = self.old.has_fault || fault } }
     {
-        let Some(faults) = self.faults.checked_add(faulty) else {
-            return Err(AllocError);
-        };
-        self.faults = faults;
-        self.remarks.note(text, &self.session);
-        Ok(())
+        if fault {
+            self.has_fault = true;
+            self.remarks.note(text, &self.session);
+        }
     }
 }
 
@@ -79,13 +74,8 @@ impl Machine for Script {
 
     #[inline(always)]
     fn take<'a>(&mut self, text: &'a [u8], out: &mut Vec<u8>) -> Result<&'a [u8], AllocError> {
-        if self.session.is_worn_out() {
-            return Err(AllocError);
-        }
-        let (faulty, rest) = self.session.take_first(text, self.print, out)?;
-        if faulty > 0 {
-            self.note_fault(text, faulty)?;
-        }
+        let (fault, rest) = self.session.take_first(text, &self.print, out)?;
+        self.look(text, fault);
         Ok(rest)
     }
 
@@ -94,12 +84,8 @@ impl Machine for Script {
         if begun.is_empty() {
             return Ok(());
         }
-        if self.session.is_worn_out() {
-            return Err(AllocError);
-        }
-        if self.session.take_unended(begun, self.print, out)? {
-            self.note_fault(begun, 1)?;
-        }
+        let fault = self.session.take_words(begun, &self.print, out)?;
+        self.look(begun, fault);
         Ok(())
     }
 }
@@ -146,6 +132,6 @@ pub fn run_script<R: Source, W: Sink, L: Listener>(
         return Err(fault_without_memory(reader, MAX_INPUT).into());
     };
     run_once_read(alloc, &mut script, reader, writer)?;
-    script.remarks.tell(script.faults, listener);
-    Ok(end_of(script.faults > 0))
+    script.remarks.tell(listener);
+    Ok(end_of(script.has_fault))
 }

@@ -3,8 +3,8 @@
 
 -- bytes that are heard in several pieces
 pub use Rattle.dine_streams.proofs.Pieces.{begun-on, begun-pieces, ended-pieces, text_of_lines}
--- a stream that is heard read by read
-pub use Rattle.dine_streams.proofs.Hearing.{heard-all, lines-whole, one-begun, seen-kept}
+-- a stream that is heard read by read, and the lines that are seen of it
+pub use Rattle.dine_streams.proofs.Hearing.{HasHeard, heard-all, heard-next, heard-opening, lines-whole, one-begun, seen-kept, seen-next, seen-pieces}
 -- how far the lines of an output are written
 pub use Rattle.dine_streams.proofs.Progress.{Progress, begun, finished, gathered, moved, partly, whole}
 -- whether something of a text is left
@@ -21,5 +21,7 @@ pub use Rattle.dine_streams.proofs.Feeds.{ended-left, ended-whatever}
 pub use Rattle.dine_streams.proofs.Outcomes.{on_ok, ran-ends, ran-gave_up, ran-well}
 -- what holds of bytes that are known
 pub use Rattle.dine_streams.proofs.Printing.{for_all_known, of_known}
+-- what lines print, and where they leave a command, one after the other
+pub use Rattle.dine_streams.proofs.Printing.{left_by-append, printed_from-append}
 -- a line at the front of a text that is taken
-pub use Rattle.dine_streams.proofs.Takings.{takes-line}
+pub use Rattle.dine_streams.proofs.Takings.{printed-then, takes-line}

@@ -55,7 +55,7 @@ takes-line m s s' text rest before after line has leaves printed = record {
 }
 
 -- what was printed behind other lines
-printed-then : {S : Type 0} (m : Rules S) (s t : S) (xs ys : List (Option (List ℕ))) (before mid after : List ℕ) → t ≡ left_by m s xs → mid ≡ before ++ text_of_lines (printed_from m s xs) → after ≡ mid ++ text_of_lines (printed_from m t ys) → after ≡ before ++ text_of_lines (printed_from m s (xs ++ ys))
+pub printed-then : {S : Type 0} (m : Rules S) (s t : S) (xs ys : List (Option (List ℕ))) (before mid after : List ℕ) → t ≡ left_by m s xs → mid ≡ before ++ text_of_lines (printed_from m s xs) → after ≡ mid ++ text_of_lines (printed_from m t ys) → after ≡ before ++ text_of_lines (printed_from m s (xs ++ ys))
 printed-then m s t xs ys before mid after leaves first next =
     let now = printed_from m s xs in
     let more = printed_from m t ys in

@@ -1,7 +1,6 @@
 //! What a command is.
 
 ghost use Rattle.std.specs.Prelude.{◌≡◌, ◌++◌, ◌<◌, [], length, IfOk, OnErr, OnOk};
-ghost use mathlib.Core.List.{IsPrefix};
 ghost use Rattle.dine_streams.specs.Lines.{begun_line, ended_lines};
 ghost use Rattle.dine_streams.specs.Machines.{Rules, Takes};
 ghost use Rattle.dine_words.specs.Texts.{text_of_lines};
@@ -19,14 +18,14 @@ pub trait Machine {
             ≡ out.old.items ++ text_of_lines (rules.prints_first self.now)) };
 
     /// Takes the first line of a text of whole lines, and maybe some behind it, appends what it prints for them, and gives the
-    /// text after them. An error is want of memory, and a part of that may have been appended then.
+    /// text after them. An error is want of memory, and nothing is appended then.
     fn take<'a>(&mut self, text: &'a [u8], out: &mut Vec<u8>) -> Result<&'a [u8], AllocError>
         requires some { 0 < length text.now }
         requires whole { begun_line [] text.now ≡ [] }
         ensures taken { IfOk result (λ rest. Takes rules self.old self.new
             text.now rest.now out.old.items out.new.items) }
         ensures shorter { IfOk result (λ rest. length rest.now < length text.now) }
-        ensures part { OnErr result (IsPrefix out.old.items out.new.items) };
+        ensures err { OnErr result (out.new.items ≡ out.old.items) };
 
     /// Takes what has begun at the end of the input, which is empty where the last line has its line feed, and appends what it
     /// prints for that. An error is want of memory.

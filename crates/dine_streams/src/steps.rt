@@ -15,30 +15,6 @@ use crate::whole::{LARGE_WRITE, write_if_enough, write_whole};
 use dine_words::{Failed, MAX_LINE, Sink};
 use std::alloc::AllocError;
 
-// Takes the first line of a text of whole lines, and maybe some behind it. On `Err` nothing is appended.
-#[inline(always)]
-fn take_next<'a, M: Machine>(
-    machine: &mut M,
-    text: &'a [u8],
-    pending: &mut Vec<u8>,
-) -> Result<&'a [u8], AllocError>
-    requires some { 0 < length text.now }
-    requires whole { begun_line [] text.now ≡ [] }
-    ensures taken { IfOk result (λ rest. Takes M.rules machine.old machine.new
-        text.now rest.now pending.old.items pending.new.items) }
-    ensures shorter { IfOk result (λ rest. length rest.now < length text.now) }
-    ensures err { OnErr result (pending.new.items ≡ pending.old.items) }
-{
-    let len = pending[..].len();
-    match machine.take(text, pending) {
-        Ok(rest) => Ok(rest),
-        Err(wanting) => {
-            pending.truncate(len);
-            Err(wanting)
-        }
-    }
-}
-
 /// Takes lines of a text of whole ones until so many bytes are pending, or none is left, and gives the text after them. On
 /// `Err` what was printed before memory ran out is pending.
 #[inline(never)]
@@ -57,7 +33,7 @@ pub(crate) fn take_some<'a, M: Machine>(
 {
     let mut rest = text;
     'lines: while !rest.is_empty() {
-        rest = take_next(machine, rest, pending)?;
+        rest = machine.take(rest, pending)?;
         if pending.len() >= most {
             return Ok(rest);
         }

@@ -7,8 +7,8 @@ use Rattle.dine_streams.proofs.steps.take_some.Goals as goal
 pub lines-init : goal.lines-init
 lines-init g c = record { takes = takes-none _ _ _ _; short = omega arith }
 
-pub take_next-requires-clause-whole : goal.take_next-requires-clause-whole
-take_next-requires-clause-whole g c = c.lines.invariant.takes.has.begun ∙ c.requires
+pub take-requires-clause-whole : goal.take-requires-clause-whole
+take-requires-clause-whole g c = c.lines.invariant.takes.has.begun ∙ c.requires
 
 pub lines-preserved : goal.lines-preserved
 lines-preserved g c =
