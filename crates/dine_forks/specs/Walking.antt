@@ -1,5 +1,5 @@
 -- A walk of a slot's list that runs rules at its records.
-use Rattle.std.specs.Prelude.{◌≡◌, ℕ, ◌+◌, ◌==◌, ◌≤◌, Bool, true, false, not, ◌||◌, if◌then◌else◌, List, map, slice_set}
+use Rattle.std.specs.Prelude.{◌≡◌, ℕ, ◌+◌, ◌==◌, ◌<◌, ◌≤◌, Bool, true, false, not, ◌||◌, if◌then◌else◌, List, map, slice_set}
 use Rattle.std.specs.List.{list_all}
 use Rattle.dine_forks.specs.declared.record.At.{At}
 use Rattle.dine_forks.specs.declared.rules.Reach.{Reach}
@@ -62,6 +62,15 @@ pub record CanPut (at : At) (book : ForkBook) (counts : List Count) (marks lacki
 abbrev pub StaysOff : ℕ → List Bool → List Bool → Type 0
 StaysOff slot old_marks marks = is_marked old_marks slot ≡ false → is_marked marks slot ≡ false
 
+-- another fork is at that record, and all is tied
+pub record HasPut
+    (at : At) (fork : Fork) (old : ForkBook) (old_marks : List Bool)
+    (new : ForkBook) (counts : List Count) (marks lacking : List Bool) : Type 0 where
+  pub tied : IsTiedBut at.slot new counts marks lacking
+  pub slots : new.slots ≡ old.slots
+  pub off : StaysOff at.slot old_marks marks
+  pub book : seen_book marks new ≡ book_with_fork at.id fork (seen_book old_marks old)
+
 -- the two forks are at one side, and so are their tokens
 pub record IsSided (a b : Fork) : Type 0 where
   pub at : a.at_first ≡ b.at_first
@@ -85,3 +94,22 @@ pub record HasStepped
       ≡ book_with_fork at.id (walked_fork reach forks at.slot (seen_record old_marks at.visited)) (seen_book old_marks old)
   pub left : after + times_reached reach at.slot at.visited ≡ before
   pub next : reached old onward ≡ first_id (behind at.id (slot_list at.slot old.records))
+
+-- ---- a whole walk
+
+-- the rules know each slot, and meet the fork of each record of the slot that they reach
+pub record CanWalk
+    (places : ℕ) (reach : Reach) (meets : Bool → Fork → Bool) (slot : ℕ)
+    (book : ForkBook) (counts : List Count) (marks lacking : List Bool) : Type 0 where
+  pub within : slot < book.slots
+  pub known : book.slots ≤ places
+  pub met : DoMeet reach meets slot (seen_book marks book)
+  pub tied : IsTied book counts marks lacking
+
+-- they have run there
+pub record HasWalked
+    (reach : Reach) (forks : Bool → ℕ → Fork → Fork) (slot : ℕ) (old : ForkBook) (old_marks : List Bool)
+    (new : ForkBook) (counts : List Count) (marks lacking : List Bool) : Type 0 where
+  pub tied : IsTied new counts marks lacking
+  pub slots : new.slots ≡ old.slots
+  pub book : seen_book marks new ≡ walked_book reach forks slot (seen_book old_marks old)

@@ -70,15 +70,6 @@ fn asked_at(first: bool, fork: Fork) -> u32
     u32::from(fork.at_first == first && fork.token_first == first)
 }
 
-/// How many forks a slot lacks.
-#[inline(always)]
-pub fn lacked_by(counts: &[Count], slot: u32) -> u32
-    requires { slot < length counts.now }
-    ensures { result ≡ (count_at counts.now slot).lacked }
-{
-    counts[slot as usize].lacked
-}
-
 /// A record comes: its fork is counted at both of its ends.
 #[inline(always)]
 pub fn add(counts: &mut [Count], coming: ForkRecord)

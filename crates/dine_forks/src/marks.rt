@@ -1,7 +1,6 @@
 //! The marks: a slot that has eaten is marked, and each fork that it holds is seen dirty.
 //!
-//! So a begin writes no dirt, and a finish none of its own slot. It is written when a mark ends: before a clean fork comes, or
-//! before a walk for forks that the slot lacks.
+//! So a begin writes no dirt, and a finish none of its own slot. It is written when a mark ends, before a clean fork comes.
 
 ghost use Rattle.std.specs.Prelude.{◌≡◌, ℕ, ◌<◌, false, length, map};
 ghost use Rattle.dine_forks.specs.Counts.{count_in};

@@ -176,7 +176,7 @@ fn beside_the_clock(
     made
 }
 
-// A thread for each pass. All of it is in order then.
+// A thread for each pass. All of it is in order then, but isn't with two entries of the first thread swapped.
 pub(crate) fn keeps_order<J: Naming + Send + Sync>(
     rt: &impl Machine,
     front: Front<J>,
@@ -200,9 +200,11 @@ pub(crate) fn keeps_order<J: Naming + Send + Sync>(
     }
     let closed = front.close(rt, handed);
     same(rt, closed.verdict, Verdict::Settled);
-    let made = beside_the_clock(rt, &closed.journal, made);
-    assert!(rt; is_in_order(&made));
+    let mut made = beside_the_clock(rt, &closed.journal, made);
     assert!(rt; told.iter().all(|told| is_told(&made, told)));
+    assert!(rt; made.len() > 15 && is_in_order(&made));
+    made.swap(0, 15);
+    assert!(rt; !is_in_order(&made));
 }
 
 #[test]

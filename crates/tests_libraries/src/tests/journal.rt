@@ -81,17 +81,20 @@ fn entry_of(rt: &impl Abort, text: &str) -> (Entry, u32) {
     (entry, messages.expect(rt, "a number"))
 }
 
-// Makes the call of an entry, which gets this place and the entry's reply, and is there in the history.
+// Makes the call of an entry, which gets this place and the entry's reply, and is the last of the history then.
 fn writes(rt: &impl Abort, hall: &mut Hall, place: usize, text: &str) {
     let (entry, _) = entry_of(rt, text);
     let Entry { pass, call, reply } = entry;
     same_at(rt, text, hall.reply_to(call), reply);
+    same_at(rt, text, (hall.reserve(), hall.has_room()), (Ok(()), true));
     let answer = Answer {
         place: place as u64,
         reply,
     };
     same_at(rt, text, hall.act(pass, call), Ok(answer));
-    same_at(rt, text, hall.history().get(place), Some(entry));
+    let history = hall.history();
+    let kept = (history.get(place), history.len().checked_sub(1));
+    same_at(rt, text, kept, (Some(entry), Some(place)));
 }
 
 // A hall with room for 64 tasks and 256 conflicts that has made the calls of these entries.
@@ -131,8 +134,6 @@ fn check(rt: &impl Host, case: &Case) {
     let mut hall = hall_after(rt, entries);
     let table = plays(rt, LIMITS, entries);
     same_at(rt, name, hall.history().is_empty(), entries.is_empty());
-    same_at(rt, name, hall.reserve(), Ok(()));
-    same_at(rt, name, hall.has_room(), true);
     same_at(rt, name, [hall.limits(), table.limits()], [LIMITS; 2]);
     let wanted = (clock, ready.first().copied());
     same_at(rt, name, (hall.clock(), hall.next_ready()), wanted);

@@ -24,17 +24,20 @@ relieve-requires c =
     let listed = sym (length-set c.args.lacking.now c.args.at.now.slot false) ∙ c.requires.can.tied.listed in
     rw (c.other-other.ensures, listed) (other-in c.args.at.now c.args.lists.now c.args.counts.now c.args.marks.now c.args.lacking.now c.are_sound.ensures c.requires.can)
 
-pub returns-clause-tied : goal.returns-clause-tied
-returns-clause-tied c =
-    let at = c.args.at.now in let counts = c.args.counts.now in let other = other_end at.slot at.visited in let t = told (goal.at.returns-clause-tied c).After-are_sound in
+pub returns : goal.returns
+returns c =
+    let at = c.args.at.now in let counts = c.args.counts.now in let other = other_end at.slot at.visited in let t = told (goal.at.returns c).After-are_sound in
     let one = set counts at.slot (recounted (is_first at.end) c.args.had c.after-fork.result (count_at counts at.slot)) in
     let here = get_or-set_same one other (recounted (not (is_first at.end)) c.args.had c.after-fork.result (count_at counts other)) no_count (rw (length-set counts at.slot _) t.there.within) in
-    rw (c.put.ensures.written, c.relieve.ensures, c.other-other.ensures, c.put.ensures.counts, here, c.is_first-first.ensures)
-    (put-tied at c.args.lists.now counts c.args.marks.now c.args.lacking.now c.are_sound.ensures c.requires.can c.make_end_ready.new.lists c.make_end_ready.new.marks c.make_end_ready.ensures.same c.are_sound-2.ensures c.after-fork.result
-    c.args.had (rw c.requires.had (seen-sided c.args.marks.now at.visited)) _ (gains-is (is_first at.end) c.args.had c.after-fork.result))
-
-pub returns-clause-book : goal.returns-clause-book
-returns-clause-book c =
-    rw (c.put.ensures.written, ← c.after-fork.ensures)
-    (put-seen-at c.args.at.now c.args.lists.now c.args.counts.now c.args.marks.now c.args.lacking.now c.are_sound.ensures c.requires.can c.make_end_ready.new.lists c.make_end_ready.new.marks c.make_end_ready.ensures.same c.are_sound-2.ensures c.after-fork.result
-    c.make_end_ready.ensures.ready)
+    record {
+      tied =
+          rw (c.put.ensures.written, c.relieve.ensures, c.other-other.ensures, c.put.ensures.counts, here, c.is_first-first.ensures)
+          (put-tied at c.args.lists.now counts c.args.marks.now c.args.lacking.now c.are_sound.ensures c.requires.can c.make_end_ready.new.lists c.make_end_ready.new.marks c.make_end_ready.ensures.same c.are_sound-2.ensures c.after-fork.result
+          c.args.had (rw c.requires.had (seen-sided c.args.marks.now at.visited)) _ (gains-is (is_first at.end) c.args.had c.after-fork.result));
+      slots = rw c.put.ensures.written c.make_end_ready.ensures.same.slots;
+      off = c.make_end_ready.ensures.off;
+      book =
+          rw (c.put.ensures.written, ← c.after-fork.ensures)
+          (put-seen-at at c.args.lists.now counts c.args.marks.now c.args.lacking.now c.are_sound.ensures c.requires.can c.make_end_ready.new.lists c.make_end_ready.new.marks c.make_end_ready.ensures.same c.are_sound-2.ensures c.after-fork.result
+          c.make_end_ready.ensures.ready);
+    }

@@ -1,121 +1,16 @@
-use Rattle.dine_forks.proofs.Lemmas.{ForkBook, not, ForkRecord, List, false, and_parts, list_all, is_met_at, ◌∷◌, ◌≡◌, length, refl, sym, ap, ◌∙◌, arith, sum_by, length-set, sum_by-cons, behind, first_id, is_end, one_if, times_reached, reached, slot_list, seen_book, seen_record, walked_at, walked_fork, first-seen, is_in_use-seen, listed-seen, once-seen, seen_all, seen-same, settled, taken-out, tied-alike, all-goes_on, found-seen, idle, reached-seen, reached-start, seen-on, walk-idle, IsChanging, Visits, at-record, at-visit, changing-goes_on, changing-start, goes-on_some, length-goes_on, rest_of, rest-start, sum-goes_on}
-use Rattle.dine_forks.proofs.walk.walk.Given.{Over}
-use Rattle.dine_forks.proofs.walk.walk.Goals.{After-reached_of-left, After-record-visited, After-step-onward}
+use Rattle.dine_forks.proofs.Lemmas.{ForkBook, ap, ◌∙◌, is_met_at, list_all, slot_list, tied-alike}
 use Rattle.dine_forks.proofs.walk.walk.Goals as goal
 
--- what the walk has to do with, by what is seen
-start : (g : Over) (c : After-reached_of-left g) → sum_by (times_reached (g.R.Rules.reach c.args.rules.now) c.args.slot) (slot_list c.args.slot (seen_all c.args.marks.now c.args.lists.now.records)) ≡ c.reached_of-left.result
-start g c =
-    let slot = c.args.slot in let book = c.args.lists.now in
-    reached-start (g.R.Rules.reach c.args.rules.now) slot c.reached_of-left.result c.args.marks.now book (rw (← c.reach-reach.ensures) (sym c.reached_of-left.ensures))
+pub make_ready-requires-clause-lacked : goal.make_ready-requires-clause-lacked
+make_ready-requires-clause-lacked g c = ap (λ x. x.lacked) (c.requires.tied.counted c.args.slot c.requires.within)
 
-pub reached_of-left-requires-clause-count : goal.reached_of-left-requires-clause-count
-reached_of-left-requires-clause-count g c = c.requires.tied.counted c.args.slot c.requires.slot
-
-pub loop-next-init : goal.loop-next-init
-loop-next-init g c =
-    let reach = g.R.Rules.reach c.args.rules.now in let forks = g.R.Rules.forks c.args.rules.now in
-    let slot = c.args.slot in let lists = c.make_ready.new.lists in let marks = c.make_ready.new.marks in let seen = seen_all marks lists.records in
-    let first = c.first_of-next.ensures.first ∙ sym (first-seen marks slot lists.records) in
-    let sound = c.first_of-next.ensures.sound in let same = c.make_ready.ensures.same in
-    let rest : rest_of c.first_of-next.result (slot_list slot seen) ≡ slot_list slot (seen_all c.args.marks.now c.args.lists.now.records) =
-    ap (λ o. rest_of o (slot_list slot seen)) first ∙ rest-start slot seen ∙ ap (λ (b : ForkBook). slot_list slot b.records) same.same in
+-- a walk may begin where the mark has ended
+pub walk_on-requires-clause-can : goal.walk_on-requires-clause-can
+walk_on-requires-clause-can g c =
+    let same = c.make_ready.ensures.same in
     record {
-      changing = changing-start slot (walked_fork reach forks slot) (walked_at reach forks slot) c.first_of-next.result (seen_book marks lists) (once-seen marks lists.records sound.each_id_once) first refl;
-      tied = taken-out lists c.args.counts.now marks c.args.lacking.now slot (rw same.slots c.requires.slot) (tied-alike c.args.lists.now lists c.args.counts.now c.args.marks.now marks c.args.lacking.now same c.requires.tied);
-      own = λ is. c.make_ready.ensures.ready (ap not is);
-      left = ap (sum_by (times_reached reach slot)) rest ∙ start g (goal.at.loop-next-init g c).After-reached_of-left;
-      met = ap (list_all (is_met_at reach (g.R.Rules.meets c.args.rules.now) slot)) rest ∙ c.requires.meets;
+      within = rw same.slots c.requires.within;
+      known = rw same.slots c.requires.known;
+      met = ap (λ (b : ForkBook). list_all (is_met_at (g.R.Rules.reach c.args.rules.now) (g.R.Rules.meets c.args.rules.now) c.args.slot) (slot_list c.args.slot b.records)) same.same ∙ c.requires.met;
+      tied = tied-alike c.args.lists.now c.make_ready.new.lists c.args.counts.now c.args.marks.now c.make_ready.new.marks c.args.lacking.now same c.requires.tied;
     }
-
-pub record-visited-requires : goal.record-visited-requires
-record-visited-requires g c =
-    let rs = c.loop-next.lists.records in let marks = c.loop-next.marks in
-    let (r, v) = at-record c.args.slot c.in-Some.id c.loop-next.next (seen_all marks rs) c.in-Some.is c.loop-next.invariant.changing.walk in
-    sym (is_in_use-seen marks c.in-Some.id rs) ∙ v.used
-
--- the walk visits the record that was read
-visits : (g : Over) (c : After-record-visited g) → Visits c.args.slot c.in-Some.id (seen_all c.loop-next.marks c.loop-next.lists.records) (seen_record c.loop-next.marks c.record-visited.result)
-visits g c =
-    let rs = c.loop-next.lists.records in let marks = c.loop-next.marks in let r = c.record-visited.result in
-    at-visit c.args.slot c.in-Some.id c.loop-next.next (seen_all marks rs) (seen_record marks r) c.in-Some.is c.loop-next.invariant.changing.walk (found-seen marks c.in-Some.id rs r c.record-visited.ensures.found)
-
-pub step-onward-requires-clause-can : goal.step-onward-requires-clause-can
-step-onward-requires-clause-can g c =
-    let reach = g.R.Rules.reach c.args.rules.now in
-    let rs = c.loop-next.lists.records in let marks = c.loop-next.marks in let slot = c.args.slot in
-    let r = c.record-visited.result in let v = visits g (goal.at.step-onward-requires-clause-can g c).After-record-visited in
-    let list = slot_list slot (seen_all marks rs) in
-    let rest = ap (λ o. rest_of o list) c.in-Some.is ∙ v.rest in
-    let sum = ap (sum_by (times_reached reach slot)) rest ∙ sum_by-cons (times_reached reach slot) (seen_record marks r) (rest_of (first_id (behind c.in-Some.id list)) list) in
-    record {
-      can = record {
-        end = c.end_of-end.ensures;
-        listed = record { listed = sym (listed-seen marks slot c.in-Some.id rs) ∙ v.listed; found = c.record-visited.ensures.found; ends = sym (seen-same (is_end slot) marks r refl) ∙ v.ends };
-        tied = c.loop-next.invariant.tied;
-        own = c.loop-next.invariant.own;
-      };
-      left = omega (arith, sum, c.loop-next.invariant.left, ap one_if (reached-seen reach slot marks r));
-      met = (and_parts _ _ (sym (ap (list_all (is_met_at reach (g.R.Rules.meets c.args.rules.now) slot)) rest) ∙ c.loop-next.invariant.met)).0;
-    }
-
-pub step-onward-requires-clause-known : goal.step-onward-requires-clause-known
-step-onward-requires-clause-known g c = rw (c.loop-next.invariant.changing.slots, c.make_ready.ensures.same.slots) c.requires.known
-
--- a step goes on behind that record
-goes : (g : Over) (c : After-step-onward g) → let slot = c.args.slot in let reach = g.R.Rules.reach c.args.rules.now in let forks = g.R.Rules.forks c.args.rules.now in let next = reached c.step-onward.new.lists c.step-onward.result in
-    IsChanging slot (walked_fork reach forks slot) (walked_at reach forks slot) next (seen_book c.step-onward.new.marks c.step-onward.new.lists) (seen_book c.make_ready.new.marks c.make_ready.new.lists)
-    × (rest_of c.loop-next.next (slot_list slot (seen_all c.loop-next.marks c.loop-next.lists.records)) ≡ seen_record c.loop-next.marks c.record-visited.result ∷ rest_of next (slot_list slot (seen_all c.step-onward.new.marks c.step-onward.new.lists.records)))
-goes g c =
-    let reach = g.R.Rules.reach c.args.rules.now in let forks = g.R.Rules.forks c.args.rules.now in let slot = c.args.slot in
-    seen-on slot (walked_fork reach forks slot) (walked_at reach forks slot) c.in-Some.id c.loop-next.next _ c.loop-next.marks c.step-onward.new.marks c.loop-next.lists _ _ c.record-visited.result _ c.loop-next.invariant.changing c.in-Some.is c.record-visited.ensures.found c.step-onward.ensures.book refl c.step-onward.ensures.next
-
--- and has so many left to do with
-left : (g : Over) (c : After-step-onward g) → let slot = c.args.slot in let reach = g.R.Rules.reach c.args.rules.now in
-    sum_by (times_reached reach slot) (rest_of (reached c.step-onward.new.lists c.step-onward.result) (slot_list slot (seen_all c.step-onward.new.marks c.step-onward.new.lists.records))) ≡ c.step-onward.new.left
-left g c =
-    let slot = c.args.slot in let reach = g.R.Rules.reach c.args.rules.now in let r = c.record-visited.result in
-    let sum = ap (sum_by (times_reached reach slot)) (goes g c).1 ∙ sum_by-cons (times_reached reach slot) (seen_record c.loop-next.marks r) (rest_of (reached c.step-onward.new.lists c.step-onward.result) (slot_list slot (seen_all c.step-onward.new.marks c.step-onward.new.lists.records))) in
-    omega (arith, sum, c.loop-next.invariant.left, c.step-onward.ensures.left, ap one_if (reached-seen reach slot c.loop-next.marks r))
-
-pub goes_on-next-requires : goal.goes_on-next-requires
-goes_on-next-requires g c =
-    let all = left g (goal.at.goes_on-next-requires g c).After-step-onward in
-    λ some. goes-on_some (times_reached (g.R.Rules.reach c.args.rules.now) c.args.slot) _ _ _ (slot_list c.args.slot (seen_all c.step-onward.new.marks c.step-onward.new.lists.records)) all some
-
-pub loop-next-smaller : goal.loop-next-smaller
-loop-next-smaller g c =
-    let shorter = ap length (goes g (goal.at.loop-next-smaller g c).After-step-onward).1 in
-    let most = length-goes_on c.step-onward.new.left (reached c.step-onward.new.lists c.step-onward.result) (slot_list c.args.slot (seen_all c.step-onward.new.marks c.step-onward.new.lists.records)) in
-    rw c.goes_on-next.ensures (omega arith)
-
-pub loop-next-preserved : goal.loop-next-preserved
-loop-next-preserved g c =
-    let slot = c.args.slot in let reach = g.R.Rules.reach c.args.rules.now in let forks = g.R.Rules.forks c.args.rules.now in
-    let meets = g.R.Rules.meets c.args.rules.now in
-    let at = goal.at.loop-next-preserved g c in
-    let on = goes g at.After-step-onward in let is = left g at.After-step-onward in
-    let next = reached c.step-onward.new.lists c.step-onward.result in let count = c.step-onward.new.left in
-    let after = slot_list slot (seen_all c.step-onward.new.marks c.step-onward.new.lists.records) in
-    rw c.goes_on-next.ensures record {
-      changing = changing-goes_on slot (times_reached reach slot) (walked_fork reach forks slot) (walked_at reach forks slot) count next _ _ (idle reach forks slot) is on.0;
-      tied = c.step-onward.ensures.tied;
-      own = λ is. c.step-onward.ensures.off (c.loop-next.invariant.own is);
-      left = sum-goes_on (times_reached reach slot) (times_reached reach slot) count next after (λ r e. e) is ∙ is;
-      met = all-goes_on (is_met_at reach meets slot) count next after (and_parts _ _ (sym (ap (list_all (is_met_at reach meets slot)) on.1) ∙ c.loop-next.invariant.met)).1;
-    }
-
-pub settle-requires-clause-slot : goal.settle-requires-clause-slot
-settle-requires-clause-slot g c = rw (c.loop-next.invariant.tied.places, c.loop-next.invariant.changing.slots, c.make_ready.ensures.same.slots) c.requires.slot
-
-pub settle-requires-clause-place : goal.settle-requires-clause-place
-settle-requires-clause-place g c = rw (sym (length-set c.loop-next.lacking c.args.slot false) ∙ c.loop-next.invariant.tied.listed, c.loop-next.invariant.changing.slots, c.make_ready.ensures.same.slots) c.requires.slot
-
-pub returns-clause-tied : goal.returns-clause-tied
-returns-clause-tied g c = rw c.settle.ensures (settled c.loop-next.lists c.loop-next.counts c.loop-next.marks c.loop-next.lacking c.args.slot c.reach-reach.result c.loop-next.invariant.tied)
-
-pub returns-then-left-eq0-clause-book : goal.returns-then-left-eq0-clause-book
-returns-then-left-eq0-clause-book g c =
-    let seen = seen_book c.args.marks.now c.args.lists.now in
-    let none = start g (goal.at.returns-then-left-eq0-clause-book g c).After-reached_of-left ∙ c.if-left-eq0.true in
-    ap (λ (rs : List ForkRecord). record seen { records = rs }) (sym (walk-idle (g.R.Rules.reach c.args.rules.now) (g.R.Rules.forks c.args.rules.now) c.args.slot seen.records none))

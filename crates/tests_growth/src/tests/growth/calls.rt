@@ -17,7 +17,7 @@ const APPENDED: [&str; 5] = [
     "x4294967295.18446744073709551615",
     "x7 join -> joined 4294967295.18446744073709551615",
     "x7 conflict 0.0 4294967295.18446744073709551615 -> refused both-eating",
-    "x7 finish 1.1 -> done",
+    "x7 join -> joined 0.0",
     "x7 begin 1.1 -> refused thinking",
 ];
 

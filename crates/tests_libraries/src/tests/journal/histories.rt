@@ -89,11 +89,11 @@ const ROWS: [Row; 11] = [
         &[(B, C, 0), (B, A, 1)],
     ),
     (
-        "A begins beside the hunger that B gives up then, and again after that",
+        "B eats, and then A begins beside the hunger that B gives up, and again after that",
         "0 join -> joined 0.0; 0 join -> joined 1.1; 0 conflict 0.0 1.1 -> done; \
-        0 hungry 1.1 -> done; 0 hungry 0.0 -> done (3); 0 begin 0.0 -> done; \
-        0 finish 0.0 -> done (1); 0 withdraw 1.1 -> done (2); 0 hungry 0.0 -> done; \
-        0 begin 0.0 -> done",
+        0 hungry 1.1 -> done; 0 begin 1.1 -> done; 0 finish 1.1 -> done; 0 hungry 1.1 -> done; \
+        0 hungry 0.0 -> done (3); 0 begin 0.0 -> done; 0 finish 0.0 -> done (1); \
+        0 withdraw 1.1 -> done (2); 0 hungry 0.0 -> done; 0 begin 0.0 -> done",
         1,
         &[(B, A, 1), (A, B, 0)],
     ),

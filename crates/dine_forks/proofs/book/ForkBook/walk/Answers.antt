@@ -11,8 +11,14 @@ counts g c = lent c.walk.new.counts c.self.inside.counts.items c.self.inside.cou
 marks : (g : Over) (c : After-walk g) → take c.self.inside.marks.len (c.walk.new.marks ++ drop (length c.walk.new.marks) c.self.inside.marks.items) ≡ c.walk.new.marks
 marks g c = lent c.walk.new.marks c.self.inside.marks.items c.self.inside.marks.len (c.walk.ensures.tied.marked ∙ c.walk.ensures.slots ∙ sym c.self.invariant.marked ∙ ap length (sym c.as_mut_slice-2.ensures.value) ∙ c.as_mut_slice-2.ensures.len)
 
-pub walk-requires-clause-tied : goal.walk-requires-clause-tied
-walk-requires-clause-tied g c = rw (c.as_mut_slice.ensures.value, c.as_mut_slice-2.ensures.value) c.self.invariant
+pub walk-requires : goal.walk-requires
+walk-requires g c =
+    rw (c.as_mut_slice.ensures.value, c.as_mut_slice-2.ensures.value) record {
+      within = rw (← c.self.view_is) at c.requires.slot;
+      known = rw (← c.self.view_is) at c.requires.known;
+      met = rw (← c.self.view_is) at c.requires.meets;
+      tied = c.self.invariant;
+    }
 
 pub invariant_of-self : goal.invariant_of-self
 invariant_of-self g c = let at = (goal.at.invariant_of-self g c).After-walk in rw (counts g at, marks g at) c.walk.ensures.tied

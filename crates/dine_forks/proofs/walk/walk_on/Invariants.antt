@@ -1,5 +1,5 @@
 use Rattle.dine_forks.proofs.Lemmas.{◌≡◌, false, is_marked, true, list_all, is_met_at, length, sum_by, IsTiedBut, times_reached, seen_book, slot_list, walked_at, walked_fork, seen_all, IsChanging, rest_of}
-use Rattle.dine_forks.proofs.walk.walk.Given as goal
+use Rattle.dine_forks.proofs.walk.walk_on.Given as goal
 
 -- the rules have run that the walk has behind it, and it has to do with what is left
 abbrev pub invariant-loop-next : goal.invariant-loop-next
