@@ -421,7 +421,14 @@ impl Machine for Broker {
         if self.is_worn_out() {
             return Err(AllocError);
         }
-        self.take_front(text, out)
+        let len = out[..].len();
+        match self.take_front(text, out) {
+            Ok(rest) => Ok(rest),
+            Err(wanting) => {
+                out.truncate(len);
+                Err(wanting)
+            }
+        }
     }
 
     fn take_last(&mut self, begun: &[u8], out: &mut Vec<u8>) -> Result<(), AllocError> {
