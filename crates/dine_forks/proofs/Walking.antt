@@ -161,13 +161,9 @@ kept-seen marks book id r once found =
 -- ---- the list of a slot
 
 -- a record that a walk has nothing to do with stays
-pub idle : (reach : Reach) (forks : Bool → ℕ → Fork → Fork) (slot : ℕ) (r : ForkRecord) → times_reached reach slot r ≡ 0 → walked_fork reach forks slot r ≡ r.fork
-idle reach forks slot r none = elim (cases_Bool (is_reached_at reach slot r)) [ inl e ↦ absurd (let one : times_reached reach slot r ≡ 1 = rw e refl in omega (arith, one, none)) | inr e ↦ rw e refl ]
-
--- so does one where dirt is owed
-pub owed-idle : (owes : Bool) (reach : Reach) (forks : Bool → ℕ → Fork → Fork) (slot : ℕ) (r : ForkRecord) → times_walked owes reach slot r ≡ 0 → owed_fork owes reach forks slot r ≡ r.fork
-owed-idle true reach forks slot r none = absurd (omega (arith, none))
-owed-idle false reach forks slot r none = idle reach forks slot r none
+pub idle : (owes : Bool) (reach : Reach) (forks : Bool → ℕ → Fork → Fork) (slot : ℕ) (r : ForkRecord) → times_walked owes reach slot r ≡ 0 → owed_fork owes reach forks slot r ≡ r.fork
+idle true reach forks slot r none = absurd (omega (arith, none))
+idle false reach forks slot r none = elim (cases_Bool (is_reached_at reach slot r)) [ inl e ↦ absurd (let one : times_reached reach slot r ≡ 1 = rw e refl in omega (arith, one, none)) | inr e ↦ rw e refl ]
 
 -- what a walk has to do with, as it is counted
 pub reached-lacked : (slots slot : ℕ) (rs : List ForkRecord) → EndsAreSlots slots rs → sum_by (times_reached reach.Lacked slot) (slot_list slot rs) ≡ (count_in rs slot).lacked
@@ -178,11 +174,6 @@ reached-lacked slots slot (r ∷ rs) ends = grind (arith, nat_tests, ends.0, rea
 pub reached-asked : (slots slot : ℕ) (rs : List ForkRecord) → EndsAreSlots slots rs → sum_by (times_reached reach.Asked slot) (slot_list slot rs) ≡ (count_in rs slot).asked
 reached-asked slots slot [] ends = refl
 reached-asked slots slot (r ∷ rs) ends = grind (arith, nat_tests, ends.0, reached-asked slots slot rs ends.3, sum_by-cons (times_reached reach.Asked slot))
-
--- and all are its degree
-pub reached-all : (slot : ℕ) (rs : List ForkRecord) → sum_by (times_reached reach.All slot) rs ≡ length rs
-reached-all slot [] = refl
-reached-all slot (r ∷ rs) = grind (arith, reached-all slot rs, sum_by-cons (times_reached reach.All slot) r rs)
 
 -- where dirt is owed it has to do with all
 pub walked-all : (reach : Reach) (slot : ℕ) (rs : List ForkRecord) → sum_by (times_walked true reach slot) rs ≡ length rs
@@ -197,7 +188,7 @@ walk-idle reach forks slot (r ∷ rs) none = elim (cases_Bool (is_end slot r)) [
   | inl e ↦
       let sum = sym (sum_by-cons (times_reached reach slot) r (slot_list slot rs)) ∙ (rw e at none) in
       let here : times_reached reach slot r ≡ 0 = omega (arith, sum) in let there : sum_by (times_reached reach slot) (slot_list slot rs) ≡ 0 = omega (arith, sum) in
-      rw (e, idle reach forks slot r here, walk-idle reach forks slot rs there) refl
+      rw (e, idle false reach forks slot r here, walk-idle reach forks slot rs there) refl
 ]
 
 -- what a walk has to do with is seen

@@ -1,4 +1,4 @@
-use Rattle.dine_forks.proofs.Lemmas.{Count, HasEndedMark, rules, ◌<◌, ended-met, ended-tied, ended-walked, owed_at, owed_fork, owed-idle, times_walked, walked-seen, walked-start, ForkRecord, List, false, and_parts, list_all, is_met_at, ◌∷◌, ◌≡◌, length, refl, sym, ap, ◌∙◌, arith, sum_by, length-set, sum_by-cons, behind, first_id, is_end, reached, slot_list, seen_book, seen_record, first-seen, is_in_use-seen, listed-seen, once-seen, seen_all, seen-same, settled, taken-out, all-goes_on, found-seen, seen-on, walk-idle, IsChanging, Visits, at-record, at-visit, changing-goes_on, changing-start, goes-on_some, length-goes_on, rest_of, rest-start, sum-goes_on}
+use Rattle.dine_forks.proofs.Lemmas.{Count, HasEndedMark, rules, ◌<◌, ended-met, ended-tied, ended-walked, owed_at, owed_fork, idle, times_walked, walked-seen, walked-start, ForkRecord, List, false, and_parts, list_all, is_met_at, ◌∷◌, ◌≡◌, length, refl, sym, ap, ◌∙◌, arith, sum_by, length-set, sum_by-cons, behind, first_id, is_end, reached, slot_list, seen_book, seen_record, first-seen, is_in_use-seen, listed-seen, once-seen, seen_all, seen-same, settled, taken-out, all-goes_on, found-seen, seen-on, walk-idle, IsChanging, Visits, at-record, at-visit, changing-goes_on, changing-start, goes-on_some, length-goes_on, rest_of, rest-start, sum-goes_on}
 use Rattle.dine_forks.proofs.walk.walk.Given.{Over}
 use Rattle.dine_forks.proofs.walk.walk.Goals.{After-record-visited, After-step-onward}
 use Rattle.dine_forks.proofs.walk.walk.Goals as goal
@@ -100,7 +100,7 @@ loop-next-preserved g c =
     let next = reached c.step-onward.new.lists c.step-onward.result in let count = c.step-onward.new.left in
     let after = slot_list slot (seen_all c.step-onward.new.marks c.step-onward.new.lists.records) in
     rw c.goes_on-next.ensures record {
-      changing = changing-goes_on slot (times_walked c.end_mark-owes.result reach slot) (owed_fork c.end_mark-owes.result reach forks slot) (owed_at c.end_mark-owes.result reach forks slot) count next _ _ (owed-idle c.end_mark-owes.result reach forks slot) is on.0;
+      changing = changing-goes_on slot (times_walked c.end_mark-owes.result reach slot) (owed_fork c.end_mark-owes.result reach forks slot) (owed_at c.end_mark-owes.result reach forks slot) count next _ _ (idle c.end_mark-owes.result reach forks slot) is on.0;
       tied = c.step-onward.ensures.tied;
       own = λ is. c.step-onward.ensures.off (c.loop-next.invariant.own is);
       left = sum-goes_on (times_walked c.end_mark-owes.result reach slot) (times_walked c.end_mark-owes.result reach slot) count next after (λ r e. e) is ∙ is;
