@@ -240,19 +240,19 @@ module _ (slot : ℕ) (marks : List Bool) (below : slot < length marks) (was : i
             rw (now ∙ e, met-one meets r ends.0 one e, met-all meets slots rs ends.3 others) refl
       ]
 
-module _ (r : Reach) (slot : ℕ) (book : ForkBook) (old_marks marks : List Bool) (owes : Bool) (h : HasEndedMark r slot book old_marks marks owes) (below : slot < length old_marks) (sound : IsBook book) where
+module _ (r : Reach) (slot : ℕ) (book : ForkBook) (old_marks marks : List Bool) (owes : Bool) (h : HasEndedMark r slot old_marks marks owes) (below : slot < length old_marks) (sound : IsBook book) where
   -- a walk makes of what is seen now what the rules make of what was seen
   pub ended-walked : (forks : Bool → ℕ → Fork → Fork) → map (owed_at owes r forks slot) (seen_all marks book.records) ≡ map (walked_at r forks slot) (seen_all old_marks book.records)
   ended-walked forks = elim (cases_Bool owes) [
     | inl e ↦ rw (e, h.asks e, h.ended e) (owed-all slot old_marks below (h.was e) forks book.slots book.records sound.ends_are_slots)
-    | inr e ↦ rw e (ap (λ (b : ForkBook). map (walked_at r forks slot) b.records) (h.same e).same)
+    | inr e ↦ rw (e, h.same e) refl
   ]
 
   -- the rules meet what they met
   pub ended-met : (meets : Bool → Fork → Bool) → list_all (is_met_at r meets slot) (slot_list slot (seen_all old_marks book.records)) ≡ true → list_all (is_met_at r meets slot) (slot_list slot (seen_all marks book.records)) ≡ true
   ended-met meets met = elim (cases_Bool owes) [
     | inl e ↦ rw (h.asks e, h.ended e) (met-all slot old_marks below (h.was e) meets book.slots book.records sound.ends_are_slots (rw (h.asks e) at met))
-    | inr e ↦ ap (λ (b : ForkBook). list_all (is_met_at r meets slot) (slot_list slot b.records)) (h.same e).same ∙ met
+    | inr e ↦ rw (h.same e) met
   ]
 
   -- all is tied as it was
@@ -260,7 +260,7 @@ module _ (r : Reach) (slot : ℕ) (book : ForkBook) (old_marks marks : List Bool
   ended-tied counts lacking t = record {
     places = t.places;
     counted = t.counted;
-    marked = elim (cases_Bool owes) [ inl e ↦ rw (h.ended e) (length-set old_marks slot false ∙ t.marked) | inr e ↦ (h.same e).marked ∙ t.marked ];
+    marked = elim (cases_Bool owes) [ inl e ↦ rw (h.ended e) (length-set old_marks slot false ∙ t.marked) | inr e ↦ rw (h.same e) t.marked ];
     listed = t.listed;
     lack = t.lack;
   }

@@ -7,7 +7,7 @@ use Rattle.dine_forks.specs.declared.rules.Reach.TheVariants as reach
 use Rattle.dine_forks.specs.Book.{Fork, ForkBook, ForkRecord, IsAt, Onward, behind, book_with_fork, changed_where, dirtied, first_id, is_end, other_end, reached, slot_list}
 use Rattle.dine_forks.specs.Counts.{Count, IsTied, is_asked, lacks, one_if}
 use Rattle.dine_forks.specs.Edges.{is_first}
-use Rattle.dine_forks.specs.Marks.{IsSeenAlike, is_marked, seen_book, seen_record}
+use Rattle.dine_forks.specs.Marks.{is_marked, seen_book, seen_record}
 
 -- a walk has to do with a fork whose first end is the slot, or whose second
 abbrev pub is_reached : Reach → Bool → Fork → Bool
@@ -110,10 +110,10 @@ pub record HasStepped
 
 -- ---- a whole walk
 
--- the mark of a slot has ended before a walk that asks for forks. Where the slot has forks, they are yet to be written dirty
-pub record HasEndedMark (r : Reach) (slot : ℕ) (book : ForkBook) (old_marks marks : List Bool) (owes : Bool) : Type 0 where
+-- the mark of a slot has ended before a walk that asks for forks, which are yet to be written dirty where the slot has them
+pub record HasEndedMark (r : Reach) (slot : ℕ) (old_marks marks : List Bool) (owes : Bool) : Type 0 where
   pub off : r ≡ reach.Lacked → is_marked marks slot ≡ false
-  pub same : owes ≡ false → IsSeenAlike book old_marks book marks
+  pub same : owes ≡ false → marks ≡ old_marks
   pub asks : owes ≡ true → r ≡ reach.Lacked
   pub was : owes ≡ true → is_marked old_marks slot ≡ true
   pub ended : owes ≡ true → marks ≡ slice_set old_marks slot false

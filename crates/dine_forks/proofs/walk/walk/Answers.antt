@@ -6,9 +6,6 @@ use Rattle.dine_forks.proofs.walk.walk.Goals as goal
 pub to_do-requires-clause-count : goal.to_do-requires-clause-count
 to_do-requires-clause-count g c = c.requires.tied.counted c.args.slot c.requires.within
 
-pub end_mark-owes-requires-clause-lacked : goal.end_mark-owes-requires-clause-lacked
-end_mark-owes-requires-clause-lacked g c = ap (λ (n : Count). n.lacked) (c.requires.tied.counted c.args.slot c.requires.within)
-
 pub to_do-left-requires-clause-count : goal.to_do-left-requires-clause-count
 to_do-left-requires-clause-count g c = c.requires.tied.counted c.args.slot c.requires.within
 
@@ -17,7 +14,7 @@ loop-next-init g c =
     let reach = g.R.Rules.reach c.args.rules.now in let forks = g.R.Rules.forks c.args.rules.now in
     let slot = c.args.slot in let lists = c.args.lists.now in let marks = c.end_mark-owes.new.marks in let seen = seen_all marks lists.records in
     let owes = c.end_mark-owes.result in let below : slot < length c.args.marks.now = rw c.requires.tied.marked c.requires.within in
-    let ended : HasEndedMark reach slot lists c.args.marks.now marks owes = rw (← c.reach-reach.ensures) c.end_mark-owes.ensures in
+    let ended : HasEndedMark reach slot c.args.marks.now marks owes = rw (← c.reach-reach.ensures) c.end_mark-owes.ensures in
     let left : sum_by (times_walked owes reach slot) (slot_list slot lists.records) ≡ c.to_do-left.result = rw (← c.reach-reach.ensures) (sym c.to_do-left.ensures) in
     let first = c.first_of-next.ensures.first ∙ sym (first-seen marks slot lists.records) in
     let sound = c.first_of-next.ensures.sound in
@@ -118,7 +115,7 @@ returns g c =
     let reach = g.R.Rules.reach c.args.rules.now in let forks = g.R.Rules.forks c.args.rules.now in
     let slot = c.args.slot in let lists = c.args.lists.now in let marks = c.end_mark-owes.new.marks in let owes = c.end_mark-owes.result in
     let below : slot < length c.args.marks.now = rw c.requires.tied.marked c.requires.within in
-    let ended : HasEndedMark reach slot lists c.args.marks.now marks owes = rw (← c.reach-reach.ensures) c.end_mark-owes.ensures in
+    let ended : HasEndedMark reach slot c.args.marks.now marks owes = rw (← c.reach-reach.ensures) c.end_mark-owes.ensures in
     let ch = rw c.in_default.is at c.loop-next.invariant.changing in
     record {
       tied = rw c.settle.ensures (settled c.loop-next.lists c.loop-next.counts c.loop-next.marks c.loop-next.lacking slot c.reach-reach.result c.loop-next.invariant.tied);
