@@ -47,10 +47,10 @@ fn label(number: u32, fork: Fork) -> u32
     requires { number ≤ 65536 }
     ensures { result ≡ label_of number fork }
 {
-    let at_first = if fork.at_first { 1 } else { 0 };
-    let dirty = if fork.dirty { 2 } else { 0 };
+    let dirty = if fork.dirty { 1 } else { 0 };
+    let at_first = if fork.at_first { 2 } else { 0 };
     let token = if fork.token_first { 4 } else { 0 };
-    number * 256 + at_first + dirty + token
+    number * 256 + dirty + at_first + token
 }
 
 impl Cell {
@@ -87,13 +87,13 @@ impl Cell {
         ensures { result ≡ fork_in self.now.label }
     {
         Fork {
-            at_first: self.label % 2 == 1,
-            dirty: self.label / 2 % 2 == 1,
+            at_first: self.label / 2 % 2 == 1,
+            dirty: self.label % 2 == 1,
             token_first: self.label / 4 % 2 == 1,
         }
     }
 
-    // Whether a walk has to do with the record. Bit 0 is `at_first`, bit 2 `token_first`: 5 and 7 have both, 0 and 2 neither.
+    // Whether a walk has to do with the record. Bit 1 is `at_first`, bit 2 `token_first`: 6 and 7 have both, 0 and 1 neither.
     #[inline(always)]
     #[tactic(auto, using(crate::proofs::Blocks::label_asked, crate::proofs::Blocks::label_lacked))]
     fn is_reached(&self, reach: Reach, first: bool) -> bool
@@ -101,9 +101,9 @@ impl Cell {
     {
         let bits = self.label % 8;
         match (reach, first) {
-            (Reach::Lacked, _) => (bits % 2 == 1) != first,
-            (Reach::Asked, true) => (bits == 5) | (bits == 7),
-            (Reach::Asked, false) => (bits == 0) | (bits == 2),
+            (Reach::Lacked, _) => (bits / 2 % 2 == 1) != first,
+            (Reach::Asked, true) => (bits == 6) | (bits == 7),
+            (Reach::Asked, false) => (bits == 0) | (bits == 1),
             (Reach::All, _) => true,
         }
     }
