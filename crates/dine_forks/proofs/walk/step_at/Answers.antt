@@ -42,30 +42,27 @@ returns-then-is_reached g c =
       next = c.onward-onward.ensures;
     }
 
-pub record-requires : goal.record-requires
-record-requires g c = found-used c.args.at.now.id c.args.lists.now.records c.args.at.now.visited c.requires.can.can.listed.found
-
-pub write-requires : goal.write-requires
-write-requires g c = found-used c.args.at.now.id c.args.lists.now.records c.args.at.now.visited c.requires.can.can.listed.found
+pub soil-requires : goal.soil-requires
+soil-requires g c = found-used c.args.at.now.id c.args.lists.now.records c.args.at.now.visited c.requires.can.can.listed.found
 
 -- a fork that gets dirty stays where it is
 pub returns-then-at : goal.returns-then-at
 returns-then-at g c =
     let at = c.args.at.now in let reach = g.R.Rules.reach c.args.rules.now in let forks = g.R.Rules.forks c.args.rules.now in
     let here = (goal.at.returns-then-at g c).After-is_reached in let same = seen-alike c.args.lists.now c.args.marks.now in let sound = c.are_sound.ensures in let can = c.requires.can.can in
-    let own : c.record.result ≡ at.visited = (let k : Some c.record.result ≡ Some at.visited = sym c.record.ensures.found ∙ can.listed.found in cc) in
+    let dirty = rw can.listed.found at c.soil.ensures in
     let is = owns at.owes reach forks at.slot c.args.marks.now at.visited c.is_first.result (c.is_first.ensures ∙ can.end) (rw (← c.reach.ensures) (sym (told g here) ∙ c.if-is_reached.false)) c.if-at.true in
     record {
       tied =
-          rw (c.write.ensures, own)
+          rw dirty
           (subst (λ (cs : List Count). IsTiedBut at.slot (book_with_fork at.id (dirtied at.visited.fork) c.args.lists.now) cs c.args.marks.now c.args.lacking.now)
           (both-same (is_first at.end) at.slot (other_end at.slot at.visited) at.visited.fork c.args.counts.now (can-count at c.args.lists.now c.args.counts.now c.args.marks.now c.args.lacking.now sound can at.visited.fork record { at = refl; token = refl }))
           (put-tied at c.args.lists.now c.args.counts.now c.args.marks.now c.args.lacking.now sound can c.args.lists.now c.args.marks.now same sound (dirtied at.visited.fork)
           at.visited.fork record { at = refl; token = refl } false (λ lacked has. sym has ∙ lacked)));
-      slots = rw c.write.ensures refl;
+      slots = rw dirty refl;
       off = λ is. is;
       book =
-          rw (c.write.ensures, own)
+          rw dirty
           (put-seen-at at c.args.lists.now c.args.counts.now c.args.marks.now c.args.lacking.now sound can c.args.lists.now c.args.marks.now same sound (dirtied at.visited.fork) (λ clean. absurd (false≢true (sym clean))))
           ∙ ap (λ f. book_with_fork at.id f (seen_book c.args.marks.now c.args.lists.now)) (sym is.0);
       left = (let some = c.requires.can.left in let one = is.1 in omega arith);
