@@ -17,8 +17,8 @@ pub use Rattle.dine_forks.proofs.Seen.{are_joined-seen, degree-seen, first-seen,
 pub use Rattle.dine_forks.proofs.Signing.{none-between, signed-linked, signed-unlinked}
 pub use Rattle.dine_forks.proofs.SlotBits.{all-true, begins, found_end, found_here, found_later, found_nowhere, has_bits, has_word, insert-kept, remove-emptied}
 pub use Rattle.dine_forks.proofs.Tied.{both-are, can-add, can-come, can-remove, count-seen, dirt-alike, ends-at, found-alike, lacks-some, more-at, none-held, none_lacked, set-both, settled, taken-out, taker-in, tied-added, tied-alike, tied-empty, tied-put, tied-removed}
-pub use Rattle.dine_forks.proofs.Walking.{all-goes_on, both-same, can-count, end-is, ended-met, ended-tied, ended-walked, found-seen, gains-is, idle, kept-seen, other-in, owns, put-seen-at, put-tied, put-used, reached-asked, reached-lacked, rests, runs, seen-alike, seen-clean, seen-on, seen-sided, walk-idle, walked-all, walked-seen, walked-start}
-pub use Rattle.dine_forks.proofs.Walks.{IsChanging, Visits, at-record, at-visit, changing-goes_on, changing-on, changing-start, goes-on_some, length-goes_on, rest-start, rest_of, sum-goes_on}
+pub use Rattle.dine_forks.proofs.Walking.{all-goes_on, both-same, can-count, end-is, ended-met, ended-tied, ended-walked, found-seen, gains-is, idle, kept-seen, other-in, owns, put-seen-at, put-tied, put-used, reached-asked, reached-lacked, rests, runs, seen-alike, seen-clean, seen-on, seen-sided, some-start, walk-idle, walked-all, walked-seen, walked-start}
+pub use Rattle.dine_forks.proofs.Walks.{IsChanging, Visits, at-record, at-visit, changing-goes_on, changing-on, changing-start, goes-on_some, length-goes_on, rest-start, rest_of, some-goes_on, sum-goes_on}
 pub use Rattle.dine_forks.specs.Book.{is_full}
 pub use Rattle.dine_forks.specs.Edges.{is_first}
 pub use Rattle.dine_forks.specs.Signatures.{AreSignatures, has_bit_of, noted}

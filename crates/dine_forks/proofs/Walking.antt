@@ -1,5 +1,6 @@
 -- A walk of a slot's list that runs rules at its records: one step, and what is left.
 use Rattle.dine_forks.proofs.Words.{◌≡◌, ◌≢◌, ◌||◌, ◌≤◌, is_asked, no_count, set-get_or, subst, ℕ, ◌<◌, Bool, true, false, not, and_parts, is_met_at, IsTied, length-set, one_if, HasEndedMark, owed_at, owed_fork, times_walked, beq, eqb, List, [], ◌∷◌, length, map, list_all, set, None, Some, Option, if◌then◌else◌, ◌==◌, inl, inr, refl, sym, ap, ◌∙◌, arith, cases_Bool, eqb-true, nat_tests, sum_by, sum_by-cons, Fork, ForkId, ForkRecord, ForkBook, IsBook, EachIdOnce, EndsAreSlots, Onward, behind, book_with_fork, first_id, is_end, is_in_use, other_end, reached, record_of, slot_list, end_with, holder, dirtied, option_map, CanCount, CanPut, Count, IsCounted, IsTiedBut, IsSeenAlike, IsSided, both_recounted, recounted, count_at, count_in, is_marked, is_reached, is_reached_at, lacks, relieved, seen_book, seen_record, times_reached, walked_at, false≢true}
+use Rattle.std.specs.Option.{IfSome}
 use Rattle.dine_forks.specs.declared.record.At.{At}
 use Rattle.dine_forks.specs.Edges.{is_first}
 use Rattle.dine_forks.specs.Sending.{after}
@@ -10,7 +11,7 @@ use Rattle.dine_forks.proofs.Marking.{marked-other, marked-same, put-seen}
 use Rattle.dine_forks.proofs.Seen.{next-seen, once-seen, record_of_seen, seen_all, seen-same, slot_list_seen}
 use Rattle.dine_forks.proofs.Counted.{end_in, end_of, few-in, some-at}
 use Rattle.dine_forks.proofs.Tied.{apart, found-alike, own-is, put-back, sided, tied-alike, within}
-use Rattle.dine_forks.proofs.Walks.{IsChanging, changing-on, found-used, rest_of, with_fork-same}
+use Rattle.dine_forks.proofs.Walks.{IsChanging, changing-on, found-used, rest_of, sum_by-le, with_fork-same}
 
 -- ---- a record that a slot is at
 
@@ -179,6 +180,15 @@ reached-asked slots slot (r ∷ rs) ends = grind (arith, nat_tests, ends.0, reac
 pub walked-all : (reach : Reach) (slot : ℕ) (rs : List ForkRecord) → sum_by (times_walked true reach slot) rs ≡ length rs
 walked-all reach slot [] = refl
 walked-all reach slot (r ∷ rs) = grind (arith, walked-all reach slot rs, sum_by-cons (times_walked true reach slot) r rs)
+
+-- and where it has to do with some records it has without the dirt, it has in any case
+pub some-start : (reach : Reach) (slot : ℕ) (rs : List ForkRecord) (bare left : ℕ) (owes : Bool) → bare ≡ sum_by (times_walked false reach slot) (slot_list slot rs) → sum_by (times_walked owes reach slot) (slot_list slot rs) ≡ left
+    → bare ≢ 0 → (next : Option ForkId) → IfSome next (λ _. 1 ≤ left)
+some-start reach slot rs bare left owes all is some None = tt
+some-start reach slot rs bare left false all is some (Some id) = omega (arith, all, is, some)
+some-start reach slot rs bare left true all is some (Some id) =
+    let most = sum_by-le (times_walked false reach slot) 1 (slot_list slot rs) (λ r. elim (cases_Bool (is_reached_at reach slot r)) [ inl e ↦ rw e (omega arith) | inr e ↦ rw e (omega arith) ]) in
+    let each = walked-all reach slot (slot_list slot rs) in omega (arith, all, is, some, most, each)
 
 -- a walk with nothing to do changes nothing
 pub walk-idle : (reach : Reach) (forks : Bool → ℕ → Fork → Fork) (slot : ℕ) (rs : List ForkRecord) → sum_by (times_reached reach slot) (slot_list slot rs) ≡ 0 → map (walked_at reach forks slot) rs ≡ rs

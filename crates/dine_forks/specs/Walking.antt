@@ -89,23 +89,22 @@ pub record IsSided (a b : Fork) : Type 0 where
   pub at : a.at_first ≡ b.at_first
   pub token : a.token_first ≡ b.token_first
 
--- a walk is at a record, and has still to do with so many, among them this one where it reaches it
-pub record CanStep (reach : Reach) (meets : Bool → Fork → Bool) (at : At) (count : ℕ) (book : ForkBook) (counts : List Count) (marks lacking : List Bool) : Type 0 where
+-- a walk is at a record, whose fork the rules meet if they reach it
+pub record CanStep (reach : Reach) (meets : Bool → Fork → Bool) (at : At) (book : ForkBook) (counts : List Count) (marks lacking : List Bool) : Type 0 where
   pub can : CanPut at book counts marks lacking
-  pub left : times_walked at.owes reach at.slot at.visited ≤ count
   pub met : is_met_at reach meets at.slot (seen_record marks at.visited) ≡ true
 
--- it has run the rules there if they reach it, has to do with so many yet, and is told what follows
+-- it has run the rules there if they reach it, and is told what follows and whether it had to do with the record
 pub record HasStepped
-    (reach : Reach) (forks : Bool → ℕ → Fork → Fork) (at : At) (before : ℕ) (old : ForkBook) (old_marks : List Bool)
-    (after : ℕ) (new : ForkBook) (counts : List Count) (marks lacking : List Bool) (onward : Onward) : Type 0 where
+    (reach : Reach) (forks : Bool → ℕ → Fork → Fork) (at : At) (old : ForkBook) (old_marks : List Bool)
+    (new : ForkBook) (counts : List Count) (marks lacking : List Bool) (onward : Onward) (hit : Bool) : Type 0 where
   pub tied : IsTiedBut at.slot new counts marks lacking
   pub slots : new.slots ≡ old.slots
   pub off : StaysOff at.slot old_marks marks
   pub book :
       seen_book marks new
       ≡ book_with_fork at.id (owed_fork at.owes reach forks at.slot (seen_record old_marks at.visited)) (seen_book old_marks old)
-  pub left : after + times_walked at.owes reach at.slot at.visited ≡ before
+  pub told : one_if hit ≡ times_walked at.owes reach at.slot at.visited
   pub next : reached old onward ≡ first_id (behind at.id (slot_list at.slot old.records))
 
 -- ---- a whole walk

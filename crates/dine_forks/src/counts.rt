@@ -102,9 +102,10 @@ pub fn remove(counts: &mut [Count], lacking: &mut SlotSet, going: ForkRecord)
     counts[holder] = counts[holder].without(first, going.fork);
     let after = counts[other].without(!first, going.fork);
     counts[other] = after;
-    // Where nobody is hungry no slot is in the set: so most calls end here.
-    let was_in = lacking.has(other as u32);
-    relieve(lacking, other as u32, was_in, after.lacked);
+    // Where nobody is hungry no slot is in the set.
+    if after.lacked == 0 && lacking.has(other as u32) {
+        lacking.remove(other as u32);
+    }
 }
 
 /// A slot was walked: where it lacks no fork, it is taken out of the set, and where it has asked for those that it lacks, it is

@@ -3,8 +3,9 @@
 //! They know no mark and no count. Of a fork they know only whether a walk reaches it (`is_reached`). All records lie in one raw block, and the vacant ones hang in a list of their own. Ids that
 //! were never given come from a counter, once no record is vacant.
 
-ghost use Rattle.std.specs.Prelude.{◌≡◌, ◌≢◌, ◌==◌, ◌<◌, ◌≤◌, false, if◌then◌else◌, length, None, Some, IfOk, IfSome, IsTrue};
+ghost use Rattle.std.specs.Prelude.{◌≡◌, ◌≢◌, ◌==◌, ◌+◌, ◌<◌, ◌≤◌, false, if◌then◌else◌, length, None, Some, IfOk, IfSome, IsTrue};
 ghost use Rattle.dine_forks.specs.Book.{CanBeLinked, FitsBook, HasLinked, IsBook, IsVisit, behind, book_with_fork, empty_book, first_id, id_between, is_in_use, other_end, reached, record_of, slot_list, without};
+ghost use Rattle.dine_forks.specs.Counts.{one_if};
 ghost use Rattle.dine_forks.specs.Walking.{is_reached};
 ghost use Rattle.dine_forks.specs.Lists.{CanHang, cut_list, cut_lists, hung_list, hung_lists, hung_nodes_in, cut_nodes_in, links_at, list_at, node_at};
 
@@ -277,15 +278,21 @@ impl Lists {
         self.records.reached(self.onward(slot, id))
     }
 
-    /// The record that a walk goes on with that has so many records of a list still to write. Where it has some there is one.
+    /// The record that a walk goes on with that had so many records of a list to do with, among them the last one if `hit`. Where it
+    /// has some left there is one.
     #[inline(always)]
-    pub fn goes_on(&self, left: u32, onward: Onward) -> Option<ForkId>
-        requires { 1 ≤ left → onward.number < self.now.room }
-        ensures { result ≡ (if left == 0 then None else reached self.now onward) }
+    pub fn goes_on(&self, left: &mut u32, hit: bool, onward: Onward) -> Option<ForkId>
+        requires some { 1 ≤ left.old }
+        requires more { one_if hit < left.old → onward.number < self.now.room }
+        ensures left { left.new + one_if hit ≡ left.old }
+        ensures next { result ≡ (if left.new == 0 then None else reached self.now onward) }
     {
-        (left != 0).then_some(ForkId {
-            number: onward.number,
-        })
+        let number = onward.number;
+        if !hit {
+            return Some(ForkId { number });
+        }
+        *left -= 1;
+        (*left != 0).then_some(ForkId { number })
     }
 
     /// A record of a slot's list, its other end, and the record that follows: all that a step of a walk reads.
@@ -347,8 +354,14 @@ fn cut(by_slot: &mut Vec<ListEnds>, records: &mut Records, slot: u32, id: ForkId
           cut_nodes_in (Some slot) (links_at slot (node_at records.old.nodes id)) records.old.nodes;
     } }
 {
-    // As in `hang`. All of the ends are read, so that those which stay are picked, and nothing is decided.
-    let ends = by_slot[slot as usize];
+    // As in `hang`. Both ends are read, so that those which stay are picked, and nothing is decided.
+    let ListEnds { first, last, .. } = by_slot[slot as usize];
     let links = records.cut(Some(slot), id);
+    let degree = by_slot[slot as usize].degree;
+    let ends = ListEnds {
+        first,
+        last,
+        degree,
+    };
     by_slot[slot as usize] = ends.without_one(links);
 }

@@ -38,7 +38,7 @@ returns-then-is_reached g c =
       slots = c.send.ensures.slots;
       off = c.send.ensures.off;
       book = c.send.ensures.book ∙ ap (λ f. book_with_fork at.id f (seen_book c.args.marks.now c.args.lists.now)) (c.sent-sent.ensures ∙ rw (c.is_first.ensures, c.other.ensures, c.met-fork.ensures, c.seen.ensures, same g (goal.at.returns-then-is_reached g c).After-record-visited) refl ∙ sym is.0);
-      left = (let some = c.requires.can.left in let one = is.1 in omega arith);
+      told = sym is.1;
       next = c.onward-onward.ensures;
     }
 
@@ -65,7 +65,7 @@ returns-then-at g c =
           rw dirty
           (put-seen-at at c.args.lists.now c.args.counts.now c.args.marks.now c.args.lacking.now sound can c.args.lists.now c.args.marks.now same sound (dirtied at.visited.fork) (λ clean. absurd (false≢true (sym clean))))
           ∙ ap (λ f. book_with_fork at.id f (seen_book c.args.marks.now c.args.lists.now)) (sym is.0);
-      left = (let some = c.requires.can.left in let one = is.1 in omega arith);
+      told = sym is.1;
       next = c.onward-onward.ensures;
     }
 
@@ -78,6 +78,6 @@ returns-else-at g c =
       slots = refl;
       off = λ is. is;
       book = rw is.0 (kept-seen c.args.marks.now c.args.lists.now at.id at.visited c.are_sound.ensures.each_id_once c.requires.can.can.listed.found);
-      left = rw is.1 (omega arith);
+      told = sym is.1;
       next = c.onward-onward.ensures;
     }

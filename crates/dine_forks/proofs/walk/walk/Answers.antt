@@ -1,6 +1,6 @@
-use Rattle.dine_forks.proofs.Lemmas.{Count, HasEndedMark, rules, ◌<◌, ended-met, ended-tied, ended-walked, owed_at, owed_fork, idle, times_walked, walked-seen, walked-start, ForkRecord, List, false, and_parts, list_all, is_met_at, ◌∷◌, ◌≡◌, length, refl, sym, ap, ◌∙◌, arith, sum_by, length-set, sum_by-cons, behind, first_id, is_end, reached, slot_list, seen_book, seen_record, first-seen, is_in_use-seen, listed-seen, once-seen, seen_all, seen-same, settled, taken-out, all-goes_on, found-seen, seen-on, walk-idle, IsChanging, Visits, at-record, at-visit, changing-goes_on, changing-start, goes-on_some, length-goes_on, rest_of, rest-start, sum-goes_on}
+use Rattle.dine_forks.proofs.Lemmas.{◌+◌, one_if, Count, HasEndedMark, rules, ◌<◌, ended-met, ended-tied, ended-walked, owed_at, owed_fork, idle, times_walked, walked-seen, walked-start, ForkRecord, List, false, and_parts, list_all, is_met_at, ◌∷◌, ◌≡◌, length, refl, sym, ap, ◌∙◌, arith, sum_by, length-set, sum_by-cons, behind, first_id, is_end, reached, slot_list, seen_book, seen_record, first-seen, is_in_use-seen, listed-seen, once-seen, seen_all, seen-same, settled, taken-out, all-goes_on, found-seen, seen-on, walk-idle, IsChanging, Visits, at-record, at-visit, changing-goes_on, changing-start, goes-on_some, length-goes_on, some-goes_on, some-start, rest_of, rest-start, sum-goes_on}
 use Rattle.dine_forks.proofs.walk.walk.Given.{Over}
-use Rattle.dine_forks.proofs.walk.walk.Goals.{After-record-visited, After-step-onward}
+use Rattle.dine_forks.proofs.walk.walk.Goals.{After-record-visited, After-step-hit}
 use Rattle.dine_forks.proofs.walk.walk.Goals as goal
 
 pub to_do-requires-clause-count : goal.to_do-requires-clause-count
@@ -24,6 +24,7 @@ loop-next-init g c =
       tied = taken-out lists c.args.counts.now marks c.args.lacking.now slot c.requires.within (ended-tied reach slot lists c.args.marks.now marks owes ended below c.are_sound.ensures c.args.counts.now c.args.lacking.now c.requires.tied);
       own = λ is. c.end_mark-owes.ensures.off (search rules);
       left = ap (sum_by (times_walked owes reach slot)) rest ∙ walked-start owes reach slot c.to_do-left.result marks lists left;
+      some = some-start reach slot lists.records c.to_do.result c.to_do-left.result owes (rw (← c.reach-reach.ensures) c.to_do.ensures) left c.if-to_do-eq0.false c.first_of-next.result;
       met = ap (list_all (is_met_at reach (g.R.Rules.meets c.args.rules.now) slot)) rest ∙ ended-met reach slot lists c.args.marks.now marks owes ended below c.are_sound.ensures (g.R.Rules.meets c.args.rules.now) c.requires.met;
     }
 
@@ -39,14 +40,13 @@ visits g c =
     let rs = c.loop-next.lists.records in let marks = c.loop-next.marks in let r = c.record-visited.result in
     at-visit c.args.slot c.in-Some.id c.loop-next.next (seen_all marks rs) (seen_record marks r) c.in-Some.is c.loop-next.invariant.changing.walk (found-seen marks c.in-Some.id rs r c.record-visited.ensures.found)
 
-pub step-onward-requires-clause-can : goal.step-onward-requires-clause-can
-step-onward-requires-clause-can g c =
+pub step-hit-requires-clause-can : goal.step-hit-requires-clause-can
+step-hit-requires-clause-can g c =
     let reach = g.R.Rules.reach c.args.rules.now in
     let rs = c.loop-next.lists.records in let marks = c.loop-next.marks in let slot = c.args.slot in
-    let r = c.record-visited.result in let v = visits g (goal.at.step-onward-requires-clause-can g c).After-record-visited in
+    let r = c.record-visited.result in let v = visits g (goal.at.step-hit-requires-clause-can g c).After-record-visited in
     let list = slot_list slot (seen_all marks rs) in
     let rest = ap (λ o. rest_of o list) c.in-Some.is ∙ v.rest in
-    let sum = ap (sum_by (times_walked c.end_mark-owes.result reach slot)) rest ∙ sum_by-cons (times_walked c.end_mark-owes.result reach slot) (seen_record marks r) (rest_of (first_id (behind c.in-Some.id list)) list) in
     record {
       can = record {
         end = c.end_of-end.ensures;
@@ -54,53 +54,57 @@ step-onward-requires-clause-can g c =
         tied = c.loop-next.invariant.tied;
         own = c.loop-next.invariant.own;
       };
-      left = omega (arith, sum, c.loop-next.invariant.left, walked-seen c.end_mark-owes.result reach slot marks r);
       met = (and_parts _ _ (sym (ap (list_all (is_met_at reach (g.R.Rules.meets c.args.rules.now) slot)) rest) ∙ c.loop-next.invariant.met)).0;
     }
 
-pub step-onward-requires-clause-known : goal.step-onward-requires-clause-known
-step-onward-requires-clause-known g c = rw c.loop-next.invariant.changing.slots c.requires.known
+pub step-hit-requires-clause-known : goal.step-hit-requires-clause-known
+step-hit-requires-clause-known g c = rw c.loop-next.invariant.changing.slots c.requires.known
 
 -- a step goes on behind that record
-goes : (g : Over) (c : After-step-onward g) → let slot = c.args.slot in let reach = g.R.Rules.reach c.args.rules.now in let forks = g.R.Rules.forks c.args.rules.now in let next = reached c.step-onward.new.lists c.step-onward.result in
-    IsChanging slot (owed_fork c.end_mark-owes.result reach forks slot) (owed_at c.end_mark-owes.result reach forks slot) next (seen_book c.step-onward.new.marks c.step-onward.new.lists) (seen_book c.end_mark-owes.new.marks c.args.lists.now)
-    × (rest_of c.loop-next.next (slot_list slot (seen_all c.loop-next.marks c.loop-next.lists.records)) ≡ seen_record c.loop-next.marks c.record-visited.result ∷ rest_of next (slot_list slot (seen_all c.step-onward.new.marks c.step-onward.new.lists.records)))
+goes : (g : Over) (c : After-step-hit g) → let slot = c.args.slot in let reach = g.R.Rules.reach c.args.rules.now in let forks = g.R.Rules.forks c.args.rules.now in let next = reached c.step-hit.new.lists c.step-hit.result.0 in
+    IsChanging slot (owed_fork c.end_mark-owes.result reach forks slot) (owed_at c.end_mark-owes.result reach forks slot) next (seen_book c.step-hit.new.marks c.step-hit.new.lists) (seen_book c.end_mark-owes.new.marks c.args.lists.now)
+    × (rest_of c.loop-next.next (slot_list slot (seen_all c.loop-next.marks c.loop-next.lists.records)) ≡ seen_record c.loop-next.marks c.record-visited.result ∷ rest_of next (slot_list slot (seen_all c.step-hit.new.marks c.step-hit.new.lists.records)))
 goes g c =
     let reach = g.R.Rules.reach c.args.rules.now in let forks = g.R.Rules.forks c.args.rules.now in let slot = c.args.slot in
-    seen-on slot (owed_fork c.end_mark-owes.result reach forks slot) (owed_at c.end_mark-owes.result reach forks slot) c.in-Some.id c.loop-next.next _ c.loop-next.marks c.step-onward.new.marks c.loop-next.lists _ _ c.record-visited.result _ c.loop-next.invariant.changing c.in-Some.is c.record-visited.ensures.found c.step-onward.ensures.book refl c.step-onward.ensures.next
+    seen-on slot (owed_fork c.end_mark-owes.result reach forks slot) (owed_at c.end_mark-owes.result reach forks slot) c.in-Some.id c.loop-next.next _ c.loop-next.marks c.step-hit.new.marks c.loop-next.lists _ _ c.record-visited.result _ c.loop-next.invariant.changing c.in-Some.is c.record-visited.ensures.found c.step-hit.ensures.book refl c.step-hit.ensures.next
 
--- and has so many left to do with
-left : (g : Over) (c : After-step-onward g) → let slot = c.args.slot in let reach = g.R.Rules.reach c.args.rules.now in
-    sum_by (times_walked c.end_mark-owes.result reach slot) (rest_of (reached c.step-onward.new.lists c.step-onward.result) (slot_list slot (seen_all c.step-onward.new.marks c.step-onward.new.lists.records))) ≡ c.step-onward.new.left
+-- and with the record it has so many to do with
+left : (g : Over) (c : After-step-hit g) → let slot = c.args.slot in let reach = g.R.Rules.reach c.args.rules.now in
+    sum_by (times_walked c.end_mark-owes.result reach slot) (rest_of (reached c.step-hit.new.lists c.step-hit.result.0) (slot_list slot (seen_all c.step-hit.new.marks c.step-hit.new.lists.records))) + one_if c.step-hit.result.1 ≡ c.loop-next.left
 left g c =
     let slot = c.args.slot in let reach = g.R.Rules.reach c.args.rules.now in let r = c.record-visited.result in
-    let sum = ap (sum_by (times_walked c.end_mark-owes.result reach slot)) (goes g c).1 ∙ sum_by-cons (times_walked c.end_mark-owes.result reach slot) (seen_record c.loop-next.marks r) (rest_of (reached c.step-onward.new.lists c.step-onward.result) (slot_list slot (seen_all c.step-onward.new.marks c.step-onward.new.lists.records))) in
-    omega (arith, sum, c.loop-next.invariant.left, c.step-onward.ensures.left, walked-seen c.end_mark-owes.result reach slot c.loop-next.marks r)
+    let sum = ap (sum_by (times_walked c.end_mark-owes.result reach slot)) (goes g c).1 ∙ sum_by-cons (times_walked c.end_mark-owes.result reach slot) (seen_record c.loop-next.marks r) (rest_of (reached c.step-hit.new.lists c.step-hit.result.0) (slot_list slot (seen_all c.step-hit.new.marks c.step-hit.new.lists.records))) in
+    omega (arith, sum, c.loop-next.invariant.left, c.step-hit.ensures.told, walked-seen c.end_mark-owes.result reach slot c.loop-next.marks r)
 
-pub goes_on-next-requires : goal.goes_on-next-requires
-goes_on-next-requires g c =
-    let all = left g (goal.at.goes_on-next-requires g c).After-step-onward in
-    λ some. goes-on_some (times_walked c.end_mark-owes.result (g.R.Rules.reach c.args.rules.now) c.args.slot) _ _ _ (slot_list c.args.slot (seen_all c.step-onward.new.marks c.step-onward.new.lists.records)) all some
+pub goes_on-next-requires-clause-some : goal.goes_on-next-requires-clause-some
+goes_on-next-requires-clause-some g c = rw c.in-Some.is at c.loop-next.invariant.some
+
+pub goes_on-next-requires-clause-more : goal.goes_on-next-requires-clause-more
+goes_on-next-requires-clause-more g c =
+    let all = left g (goal.at.goes_on-next-requires-clause-more g c).After-step-hit in
+    λ some. goes-on_some (times_walked c.end_mark-owes.result (g.R.Rules.reach c.args.rules.now) c.args.slot) _ _ _ (slot_list c.args.slot (seen_all c.step-hit.new.marks c.step-hit.new.lists.records)) refl (omega (arith, all, some))
 
 pub loop-next-smaller : goal.loop-next-smaller
 loop-next-smaller g c =
-    let shorter = ap length (goes g (goal.at.loop-next-smaller g c).After-step-onward).1 in
-    let most = length-goes_on c.step-onward.new.left (reached c.step-onward.new.lists c.step-onward.result) (slot_list c.args.slot (seen_all c.step-onward.new.marks c.step-onward.new.lists.records)) in
-    rw c.goes_on-next.ensures (omega arith)
+    let shorter = ap length (goes g (goal.at.loop-next-smaller g c).After-step-hit).1 in
+    let most = length-goes_on c.goes_on-next.new.left (reached c.step-hit.new.lists c.step-hit.result.0) (slot_list c.args.slot (seen_all c.step-hit.new.marks c.step-hit.new.lists.records)) in
+    rw c.goes_on-next.ensures.next (omega arith)
 
 pub loop-next-preserved : goal.loop-next-preserved
 loop-next-preserved g c =
     let slot = c.args.slot in let reach = g.R.Rules.reach c.args.rules.now in let forks = g.R.Rules.forks c.args.rules.now in
     let meets = g.R.Rules.meets c.args.rules.now in
     let at = goal.at.loop-next-preserved g c in
-    let on = goes g at.After-step-onward in let is = left g at.After-step-onward in
-    let next = reached c.step-onward.new.lists c.step-onward.result in let count = c.step-onward.new.left in
-    let after = slot_list slot (seen_all c.step-onward.new.marks c.step-onward.new.lists.records) in
-    rw c.goes_on-next.ensures record {
+    let on = goes g at.After-step-hit in let all = left g at.After-step-hit in
+    let next = reached c.step-hit.new.lists c.step-hit.result.0 in let count = c.goes_on-next.new.left in
+    let after = slot_list slot (seen_all c.step-hit.new.marks c.step-hit.new.lists.records) in
+    let is : sum_by (times_walked c.end_mark-owes.result reach slot) (rest_of next after) ≡ count = omega (arith, all, c.goes_on-next.ensures.left) in
+    rw c.goes_on-next.ensures.next record {
       changing = changing-goes_on slot (times_walked c.end_mark-owes.result reach slot) (owed_fork c.end_mark-owes.result reach forks slot) (owed_at c.end_mark-owes.result reach forks slot) count next _ _ (idle c.end_mark-owes.result reach forks slot) is on.0;
-      tied = c.step-onward.ensures.tied;
-      own = λ is. c.step-onward.ensures.off (c.loop-next.invariant.own is);
+      tied = c.step-hit.ensures.tied;
+      own = λ is. c.step-hit.ensures.off (c.loop-next.invariant.own is);
       left = sum-goes_on (times_walked c.end_mark-owes.result reach slot) (times_walked c.end_mark-owes.result reach slot) count next after (λ r e. e) is ∙ is;
+      some = some-goes_on count next;
       met = all-goes_on (is_met_at reach meets slot) count next after (and_parts _ _ (sym (ap (list_all (is_met_at reach meets slot)) on.1) ∙ c.loop-next.invariant.met)).1;
     }
 

@@ -1,4 +1,5 @@
-use Rattle.dine_forks.proofs.Lemmas.{◌≡◌, false, is_marked, true, list_all, is_met_at, length, sum_by, IsTiedBut, times_walked, seen_book, slot_list, owed_at, owed_fork, seen_all, IsChanging, rest_of}
+use Rattle.dine_forks.proofs.Lemmas.{◌≡◌, ◌≤◌, false, is_marked, true, list_all, is_met_at, length, sum_by, IsTiedBut, times_walked, seen_book, slot_list, owed_at, owed_fork, seen_all, IsChanging, rest_of}
+use Rattle.std.specs.Prelude.{IfSome}
 use Rattle.dine_forks.proofs.walk.walk.Given as goal
 
 -- the rules have run that the walk has behind it, and it has to do with what is left
@@ -12,6 +13,7 @@ invariant-loop-next g l =
       own : l.unmarked ≡ true → is_marked l.marks l.slot ≡ false;
       met : list_all (is_met_at reach (g.R.Rules.meets l.rules) l.slot) rest ≡ true;
       left : sum_by (times_walked l.owes reach l.slot) rest ≡ l.left;
+      some : IfSome l.next (λ _. 1 ≤ l.left);
     }
 
 -- what is left of the walk
