@@ -9,21 +9,9 @@ ghost use Rattle.dine_arbiter.specs.Records.{messages_of_new, neighbour_at};
 
 use crate::edge::{new_fork, settle_edge};
 use crate::seats::Seats;
-use dine_forks::{ForkBook, ForkId};
+use dine_forks::ForkBook;
 use dine_words::Task;
 use std::alloc::{AllocError, Global};
-
-/// The first record of a slot.
-#[inline]
-pub fn first_of(book: &ForkBook, slot: u32) -> Option<ForkId>
-    requires { slot < book.now.slots }
-    ensures first { result ≡ first_id (slot_list slot book.now.records) }
-    ensures sound { IsBook book.now }
-{
-    // How many there are isn't used: the question alone tells that the book is sound.
-    let _ = book.len();
-    book.first_of(slot)
-}
 
 /// Adds the record of a new conflict between the tasks at two slots, whose edge comes to rest at once, and returns
 /// the messages.
@@ -47,7 +35,7 @@ pub fn unlink_around(book: &mut ForkBook, slot: u32)
     requires { slot < book.old.slots }
     ensures { book.new ≡ book_without_slot slot book.old }
 {
-    while let Some(id) = first_of(book, slot) {
+    while let Some(id) = book.first_of(slot) {
         book.unlink(id);
     }
 }
@@ -59,7 +47,7 @@ pub fn unlink_between(book: &mut ForkBook, first: u32, second: u32) -> bool
     ensures book { book.new ≡ book_without_pair first second book.old }
     ensures found { result ≡ are_joined first second book.old.records }
 {
-    // As in `first_of`: a sound book has no second record of the two.
+    // How many there are isn't used: the question alone tells that the book is sound, so it has no second record of the two.
     let _ = book.len();
     // Who ends a conflict mostly has one, so their signatures aren't asked first.
     let Some(id) = book.find_counted(first, second).0 else {
@@ -82,7 +70,7 @@ pub fn tasks_around(
         (filter (λ r. not (lacked_alone && holds slot r)) (slot_list slot book.now.records))) }
 {
     let mut tasks = Vec::new(alloc);
-    let mut next = first_of(book, slot);
+    let mut next = book.first_of(slot);
     while let Some(id) = next {
         let visit = book.visit(slot, id);
         let is_first = visit.record.first == slot;

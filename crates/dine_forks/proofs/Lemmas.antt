@@ -1,5 +1,5 @@
 -- The words and lemmas that the answers of functions name, from one place.
-pub use Rattle.dine_forks.proofs.Words.{AreCells, AreLeft, Block, CanCount, CanHang, Cell, Count, Fork, ForkBook, ForkId, ForkRecord, HasEndedMark, HasPlace, InBlock, IsKeptBook, IsOrdered, IsSameBlock, IsSeenAlike, IsSided, IsStored, IsTied, IsTiedBut, Links, List, ListEnds, Node, None, Option, Ptr, RowHasIds, Some, [], and_parts, ap, append-nil, are_joined, arith, behind, blank_node, block_nodes, book_of, book_with_fork, cases_Bool, common_steps, count_at, count_in, count_with, cut_list, cut_nodes_in, dirtied, drop, empty_list, ends_of, eq-eqb, eqb, false, false≢true, first_id, forked_nodes, get_or-set_other, get_or-set_same, get_or_default, holder, hung_list, hung_nodes_in, id_below, id_between, ids_of, if◌then◌else◌, inl, inr, is_end, is_in_use, is_listed, is_marked, is_met_at, is_reached, label_of, length, length-append, length-map, length-replicate, length-set, linked_id, links_at, list_all, list_at, ltb, map, nat_tests, no_count, node_at, node_in, non_holder, not, number_at, one_if, option_map, other_end, owed_at, owed_fork, own_dirtied_at, own_dirtied_fork, provided_list, provided_nodes, put_link, put_links_in, put_next_in, reached, record_of, records_of, recounted, refl, renewed, replicate, seen_book, seen_record, set, slot_list, subst, sum_by, sum_by-cons, sym, take, times_reached, times_walked, true, vacant, vacant_cell, walked_at, walked_fork, with_record, without, without_id, ℕ, ◌++◌, ◌+◌, ◌<◌, ◌==◌, ◌∙◌, ◌∷◌, ◌≡◌, ◌≢◌}
+pub use Rattle.dine_forks.proofs.Words.{AreCells, AreLeft, Block, CanCount, CanHang, Cell, Count, Fork, ForkBook, ForkId, ForkRecord, HasEndedMark, HasPlace, InBlock, IsKeptBook, IsOrdered, IsSameBlock, IsSeenAlike, IsSided, IsStored, IsTied, IsTiedBut, IfSome, Links, List, ListEnds, Node, None, Option, Ptr, RowHasIds, Some, [], and_parts, ap, append-nil, are_joined, arith, behind, blank_node, block_nodes, book_of, book_with_fork, cases_Bool, common_steps, count_at, count_in, count_with, cut_list, cut_nodes_in, dirtied, drop, empty_list, ends_of, eq-eqb, eqb, false, false≢true, first_id, forked_nodes, get_or-set_other, get_or-set_same, get_or_default, holder, hung_list, hung_nodes_in, id_below, id_between, ids_of, if◌then◌else◌, inl, inr, is_end, is_in_use, is_listed, is_marked, is_met_at, is_reached, label_of, length, length-append, length-map, length-replicate, length-set, linked_id, links_at, list_all, list_at, ltb, map, nat_tests, no_count, node_at, node_in, non_holder, not, number_at, one_if, option_map, other_end, owed_at, owed_fork, own_dirtied_at, own_dirtied_fork, provided_list, provided_nodes, put_link, put_links_in, put_next_in, reached, record_of, records_of, recounted, refl, renewed, replicate, seen_book, seen_record, set, slot_list, subst, sum_by, sum_by-cons, sym, take, times_reached, times_walked, true, vacant, vacant_cell, walked_at, walked_fork, with_record, without, without_id, ℕ, ◌++◌, ◌+◌, ◌<◌, ◌==◌, ◌∙◌, ◌∷◌, ◌≡◌, ◌≢◌}
 pub use Rattle.dine_forks.proofs.Blocks.{all_both, below-number_or, below_room, filled, given-cells, given-left, given-nodes, id_below-past, id_below_is, id_has, is_cell, length-three, length_nodes, linked_is, named_at, number_is, pointer_block, record_block, record_is, record_nodes, same_both, slot_both, with_three}
 pub use Rattle.dine_forks.proofs.CallerLemmas.{found-used, slot_of_used}
 pub use Rattle.dine_forks.proofs.Counted.{end_in, ends_in, few-in}

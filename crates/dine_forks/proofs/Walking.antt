@@ -1,6 +1,5 @@
 -- A walk of a slot's list that runs rules at its records: one step, and what is left.
-use Rattle.dine_forks.proofs.Words.{◌≡◌, ◌≢◌, ◌||◌, ◌≤◌, is_asked, no_count, set-get_or, subst, ℕ, ◌<◌, Bool, true, false, not, and_parts, is_met_at, IsTied, length-set, one_if, HasEndedMark, owed_at, owed_fork, times_walked, beq, eqb, List, [], ◌∷◌, length, map, list_all, set, None, Some, Option, if◌then◌else◌, ◌==◌, inl, inr, refl, sym, ap, ◌∙◌, arith, cases_Bool, eqb-true, nat_tests, sum_by, sum_by-cons, Fork, ForkId, ForkRecord, ForkBook, IsBook, EachIdOnce, EndsAreSlots, Onward, behind, book_with_fork, first_id, is_end, is_in_use, other_end, reached, record_of, slot_list, end_with, holder, dirtied, option_map, CanCount, CanPut, Count, IsCounted, IsTiedBut, IsSeenAlike, IsSided, both_recounted, recounted, count_at, count_in, is_marked, is_reached, is_reached_at, lacks, relieved, seen_book, seen_record, times_reached, walked_at, false≢true}
-use Rattle.std.specs.Option.{IfSome}
+use Rattle.dine_forks.proofs.Words.{◌≡◌, ◌≢◌, ◌||◌, ◌≤◌, is_asked, no_count, set-get_or, subst, ℕ, ◌<◌, Bool, true, false, not, and_parts, is_met_at, IsTied, length-set, one_if, HasEndedMark, owed_at, owed_fork, times_walked, beq, eqb, List, [], ◌∷◌, length, map, list_all, set, None, Some, Option, IfSome, if◌then◌else◌, ◌==◌, inl, inr, refl, sym, ap, ◌∙◌, arith, cases_Bool, eqb-true, nat_tests, sum_by, sum_by-cons, Fork, ForkId, ForkRecord, ForkBook, IsBook, EachIdOnce, EndsAreSlots, Onward, behind, book_with_fork, first_id, is_end, is_in_use, other_end, reached, record_of, slot_list, end_with, holder, dirtied, option_map, CanCount, CanPut, Count, IsCounted, IsTiedBut, IsSeenAlike, IsSided, both_recounted, recounted, count_at, count_in, is_marked, is_reached, is_reached_at, lacks, relieved, seen_book, seen_record, times_reached, walked_at, false≢true}
 use Rattle.dine_forks.specs.declared.record.At.{At}
 use Rattle.dine_forks.specs.Edges.{is_first}
 use Rattle.dine_forks.specs.Sending.{after}

@@ -10,7 +10,7 @@ pub use Rattle.std.proofs.lemmas.List.{get_or-replicate, get_or-set_other, get_o
 pub use Rattle.std.proofs.lemmas.List.Elements.{filter-append}
 pub use Rattle.std.proofs.lemmas.List.Sums.{sum_by-cons}
 pub use Rattle.std.specs.List.{filter, list_all, list_any, sum_by}
-pub use Rattle.std.specs.Option.{is_none, option_map, option_or}
+pub use Rattle.std.specs.Option.{IfSome, is_none, option_map, option_or}
 pub use Rattle.dine_forks.specs.Blocks.{AreCells, AreLeft, Block, Cell, InBlock, IsBlock, IsCell, IsIn, IsSameBlock, IsWritten, Part, Place, Ptr, block_nodes, cell_in, cell_index, cell_or, cell_place, fork_in, label_of, link_in, linked_id, node_in, node_of, number_at, number_in, number_or, place_at, put_link, the_row, vacant_cell, with_link, with_pointer}
 pub use Rattle.dine_forks.specs.Book.{ForkBook, EachIdOnce, EachPairOnce, EndsAreSlots, Fork, ForkId, ForkRecord, IsBook, Onward, are_joined, behind, book_with_fork, changed_where, empty_book, ends_of, first_id, has_id, holds, id_below, id_between, is_between, is_end, is_in_use, other_end, put_fork, reached, record_of, same_id, slot_list, dirtied, with_fork, with_record, without}
 pub use Rattle.dine_forks.specs.Counts.{AreCountedEnds, CanAdd, CanCount, CanRemove, IsCounted, Count, IsTied, counted_less, counted_more, count_at, count_in, count_with, count_without, asker_set, both_recounted, is_asked, is_member, kept_set, lacks, no_count, one_if, recounted, relieved}

@@ -355,13 +355,8 @@ fn cut(by_slot: &mut Vec<ListEnds>, records: &mut Records, slot: u32, id: ForkId
     } }
 {
     // As in `hang`. Both ends are read, so that those which stay are picked, and nothing is decided.
-    let ListEnds { first, last, .. } = by_slot[slot as usize];
+    let ends = by_slot[slot as usize];
     let links = records.cut(Some(slot), id);
     let degree = by_slot[slot as usize].degree;
-    let ends = ListEnds {
-        first,
-        last,
-        degree,
-    };
-    by_slot[slot as usize] = ends.without_one(links);
+    by_slot[slot as usize] = ListEnds { degree, ..ends }.without_one(links);
 }

@@ -44,11 +44,9 @@ fn write_dirt(lists: &mut Lists, slot: u32)
     let mut next = lists.first_of(slot);
     while let Some(id) = next {
         let visit = lists.visit(slot, id);
-        let dirty = Fork {
-            dirty: visit.record.fork.dirty | (slot == visit.record.holder()),
-            ..visit.record.fork
-        };
-        lists.write(id, dirty);
+        let fork = visit.record.fork;
+        let dirty = fork.dirty | (slot == visit.record.holder());
+        lists.write(id, Fork { dirty, ..fork });
         next = visit.next;
     }
 }

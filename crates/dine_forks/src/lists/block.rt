@@ -371,12 +371,8 @@ impl Records {
                 *vacant = vacant.without_one(links);
                 Some(id)
             }
-            None => {
-                if self.block.given == self.block.room {
-                    return None;
-                }
-                Some(self.block.give())
-            }
+            None if self.block.given == self.block.room => None,
+            None => Some(self.block.give()),
         }
     }
 

@@ -1,4 +1,4 @@
-use Rattle.dine_forks.proofs.Lemmas.{◌+◌, one_if, Count, HasEndedMark, rules, ◌<◌, ended-met, ended-tied, ended-walked, owed_at, owed_fork, idle, times_walked, walked-seen, walked-start, ForkRecord, List, false, and_parts, list_all, is_met_at, ◌∷◌, ◌≡◌, length, refl, sym, ap, ◌∙◌, arith, sum_by, length-set, sum_by-cons, behind, first_id, is_end, reached, slot_list, seen_book, seen_record, first-seen, is_in_use-seen, listed-seen, once-seen, seen_all, seen-same, settled, taken-out, all-goes_on, found-seen, seen-on, walk-idle, IsChanging, Visits, at-record, at-visit, changing-goes_on, changing-start, goes-on_some, length-goes_on, some-goes_on, some-start, rest_of, rest-start, sum-goes_on}
+use Rattle.dine_forks.proofs.Lemmas.{◌+◌, one_if, HasEndedMark, rules, ◌<◌, ended-met, ended-tied, ended-walked, owed_at, owed_fork, idle, times_walked, walked-seen, walked-start, ForkRecord, List, false, and_parts, list_all, is_met_at, ◌∷◌, ◌≡◌, length, refl, sym, ap, ◌∙◌, arith, sum_by, length-set, sum_by-cons, is_end, reached, slot_list, seen_book, seen_record, first-seen, is_in_use-seen, listed-seen, once-seen, seen_all, seen-same, settled, taken-out, all-goes_on, found-seen, seen-on, walk-idle, IsChanging, Visits, at-record, at-visit, changing-goes_on, changing-start, goes-on_some, length-goes_on, some-goes_on, some-start, rest_of, rest-start, sum-goes_on}
 use Rattle.dine_forks.proofs.walk.walk.Given.{Over}
 use Rattle.dine_forks.proofs.walk.walk.Goals.{After-record-visited, After-step-hit}
 use Rattle.dine_forks.proofs.walk.walk.Goals as goal

@@ -1,5 +1,4 @@
-use Rattle.dine_forks.proofs.Lemmas.{◌≡◌, ◌≤◌, false, is_marked, true, list_all, is_met_at, length, sum_by, IsTiedBut, times_walked, seen_book, slot_list, owed_at, owed_fork, seen_all, IsChanging, rest_of}
-use Rattle.std.specs.Prelude.{IfSome}
+use Rattle.dine_forks.proofs.Lemmas.{◌≡◌, ◌≤◌, IfSome, false, is_marked, true, list_all, is_met_at, length, sum_by, IsTiedBut, times_walked, seen_book, slot_list, owed_at, owed_fork, seen_all, IsChanging, rest_of}
 use Rattle.dine_forks.proofs.walk.walk.Given as goal
 
 -- the rules have run that the walk has behind it, and it has to do with what is left
