@@ -1,8 +1,8 @@
 // Refuses one growth of a program, and tells where none was to come: a library that is loaded before the C library. Every call
 // for memory is counted, and the one whose number stands in REFUSED_GROWTH gets none. That is told on standard error, in the
 // line that .ci/refused-growth looks for. Two calls for blocks of certain sizes say from where to where no other call may come:
-// where one of these calls is, and the first that comes between them, is told too. It includes no header, since none declares
-// the functions behind those of the C library, to which it hands on.
+// where one of these calls is, and the first that comes between them, is told too. In the end it tells how many blocks were not
+// freed. It includes no header, since none declares the functions behind those of the C library, to which it hands on.
 
 typedef unsigned long size_t;
 
@@ -18,11 +18,13 @@ enum { MAY, MAY_NOT, DID };
 extern void *__libc_malloc(size_t size);
 extern void *__libc_calloc(size_t count, size_t size);
 extern void *__libc_realloc(void *block, size_t size);
+extern void __libc_free(void *block);
 extern int *__errno_location(void);
 extern char *getenv(const char *name);
 extern long write(int file, const void *bytes, size_t count);
 
 static unsigned long growths;
+static long blocks;
 static int span;
 
 static void tell(const char *line) {
@@ -63,17 +65,41 @@ static void note(size_t size) {
     }
 }
 
+// Counts a block that was taken, if one was.
+static void *taken(void *block) {
+    if (block)
+        __atomic_add_fetch(&blocks, 1, __ATOMIC_SEQ_CST);
+    return block;
+}
+
 void *malloc(size_t size) {
     note(size);
-    return is_refused() ? 0 : __libc_malloc(size);
+    return is_refused() ? 0 : taken(__libc_malloc(size));
 }
 
 void *calloc(size_t count, size_t size) {
     note(0);
-    return is_refused() ? 0 : __libc_calloc(count, size);
+    return is_refused() ? 0 : taken(__libc_calloc(count, size));
 }
 
+// A block that is made larger or smaller stays one block. Nobody asks for one of no bytes.
 void *realloc(void *block, size_t size) {
     note(0);
-    return is_refused() ? 0 : __libc_realloc(block, size);
+    if (is_refused())
+        return 0;
+    return block ? __libc_realloc(block, size) : taken(__libc_malloc(size));
+}
+
+void free(void *block) {
+    if (block)
+        __atomic_sub_fetch(&blocks, 1, __ATOMIC_SEQ_CST);
+    __libc_free(block);
+}
+
+__attribute__((destructor)) static void tell_blocks(void) {
+    char line[] = "blocks left: 0000000\n";
+    long left = blocks;
+    for (char *digit = line + sizeof line - 3; left > 0 && *digit != ' '; digit--, left /= 10)
+        *digit = (char)('0' + left % 10);
+    tell(line);
 }
