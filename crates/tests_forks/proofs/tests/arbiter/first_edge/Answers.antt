@@ -3,7 +3,7 @@ use Rattle.tests_forks.proofs.tests.arbiter.FirstInUse.{first_in_use}
 use Rattle.tests_forks.proofs.tests.arbiter.first_edge.Goals as goal
 
 pub ends-requires : goal.ends-requires
-ends-requires c = first_in_use 0 c.in_ok-id.id c.book-book.result.now.records (sym c.first_of.ensures ∙ c.in_ok-id.was)
+ends-requires c = first_in_use 0 c.in_ok-id.id c.book-book.result.now.records (sym c.first_of.ensures.first ∙ c.in_ok-id.was)
 
 pub fork-requires : goal.fork-requires
-fork-requires c = first_in_use 0 c.in_ok-id.id c.book-book.result.now.records (sym c.first_of.ensures ∙ c.in_ok-id.was)
+fork-requires c = first_in_use 0 c.in_ok-id.id c.book-book.result.now.records (sym c.first_of.ensures.first ∙ c.in_ok-id.was)
