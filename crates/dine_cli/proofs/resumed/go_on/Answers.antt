@@ -18,16 +18,16 @@ returns-in-One-clause-marks g c =
       write_unmarked = marks.write_unmarked;
     }
 
-pub returns-in-Two-clause-ok : goal.returns-in-Two-clause-ok
-returns-in-Two-clause-ok g c =
+pub returns-after-replayed-clause-ok : goal.returns-after-replayed-clause-ok
+returns-after-replayed-clause-ok g c =
     let served = c.serve_on.ensures in
     rw c.in-Two.is (both_known _ _ _ c.serve_on.result served.output served.ended)
 
-pub returns-in-Two-clause-read : goal.returns-in-Two-clause-read
-returns-in-Two-clause-read g c = λ failed. rw c.in-Two.is (c.serve_on.ensures.at_each_read failed)
+pub returns-after-replayed-clause-read : goal.returns-after-replayed-clause-read
+returns-after-replayed-clause-read g c = λ failed. rw c.in-Two.is (c.serve_on.ensures.at_each_read failed)
 
-pub returns-in-Two-clause-memory : goal.returns-in-Two-clause-memory
-returns-in-Two-clause-memory g c = λ failed. rw c.in-Two.is (c.serve_on.ensures.memory failed)
+pub returns-after-replayed-clause-memory : goal.returns-after-replayed-clause-memory
+returns-after-replayed-clause-memory g c = λ failed. rw c.in-Two.is (c.serve_on.ensures.memory failed)
 
-pub returns-in-Two-clause-write : goal.returns-in-Two-clause-write
-returns-in-Two-clause-write g c = λ failed. rw c.in-Two.is (c.serve_on.ensures.write failed)
+pub returns-after-replayed-clause-write : goal.returns-after-replayed-clause-write
+returns-after-replayed-clause-write g c = λ failed. rw c.in-Two.is (c.serve_on.ensures.write failed)

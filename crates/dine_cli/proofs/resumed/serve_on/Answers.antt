@@ -1,7 +1,30 @@
 use Rattle.std.proofs.Common.{ap, rules, ◌∙◌}
+use Rattle.std.proofs.KnownBytes.{Appends-nil}
+use Rattle.dine_serve.specs.Serving.{said_to_input, standing_at}
 use Rattle.dine_streams.specs.Ending.{end_of}
-use Rattle.dine_streams.proofs.CallerLemmas.{ran-gave_up, ran-well}
+use Rattle.dine_streams.specs.Written.{AppendsLinesOf}
+use Rattle.dine_streams.proofs.CallerLemmas.{for_all_known, ran-gave_up, ran-well}
 use Rattle.dine_cli.proofs.resumed.serve_on.Goals as goal
+
+-- no memory for the broker: nothing is written
+pub returns-in_err-broker : goal.returns-in_err-broker
+returns-in_err-broker g c =
+    let old = g.W.Sink.contents c.args.writer.now in
+    let s = standing_at c.args.arbiter.table c.args.passes in
+    record {
+      output = search rules;
+      ended = search rules;
+      at_each_read = search rules;
+      memory = λ failed. for_all_known _ (λ all. AppendsLinesOf old old (said_to_input s all)) (λ all. (0, Appends-nil old));
+      write = search rules;
+      marks = record {
+        read_mark = search rules;
+        write_mark = search rules;
+        read_unmarked = search rules;
+        write_unmarked = search rules;
+      };
+      whole = search rules;
+    }
 
 -- the answers were given up
 pub returns-in_err-answer_all : goal.returns-in_err-answer_all
