@@ -1,5 +1,4 @@
-//! Walks over the records of one slot, in order of declaration. No other record is read or
-//! written, but where a book ends a mark on the way.
+//! Walks over the records of one slot, in order of declaration. No other is read or written, but where a mark ends on the way.
 
 ghost use Rattle.std.specs.Prelude.{◌≡◌, ◌<◌, ◌&&◌, IfOk, filter, map, not};
 ghost use Rattle.dine_forks.specs.declared.record.ForkId.{ForkId};

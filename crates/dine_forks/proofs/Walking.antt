@@ -1,5 +1,6 @@
 -- A walk of a slot's list that runs rules at its records: one step, and what is left.
-use Rattle.dine_forks.proofs.Words.{◌≡◌, ◌≢◌, ◌||◌, ◌≤◌, is_asked, no_count, set-get_or, subst, ℕ, ◌<◌, Bool, true, false, not, and_parts, is_met_at, IsTied, length-set, one_if, HasEndedMark, owed_at, owed_fork, times_walked, beq, eqb, List, [], ◌∷◌, length, map, list_all, set, None, Some, Option, IfSome, if◌then◌else◌, ◌==◌, inl, inr, refl, sym, ap, ◌∙◌, arith, cases_Bool, eqb-true, nat_tests, sum_by, sum_by-cons, Fork, ForkId, ForkRecord, ForkBook, IsBook, EachIdOnce, EndsAreSlots, Onward, behind, book_with_fork, first_id, is_end, is_in_use, other_end, reached, record_of, slot_list, end_with, holder, dirtied, option_map, CanCount, CanPut, Count, IsCounted, IsTiedBut, IsSeenAlike, IsSided, both_recounted, recounted, count_at, count_in, is_marked, is_reached, is_reached_at, lacks, relieved, seen_book, seen_record, times_reached, walked_at, false≢true}
+use Rattle.dine_forks.proofs.Words.{◌+◌, ◌-◌, get_or-set_other, get_or-set_same, ◌≡◌, ◌≢◌, ◌||◌, ◌≤◌, is_asked, no_count, set-get_or, subst, ℕ, ◌<◌, Bool, true, false, not, and_parts, is_met_at, IsTied, length-set, one_if, HasEndedMark, owed_at, owed_fork, times_walked, beq, eqb, List, [], ◌∷◌, length, map, list_all, set, None, Some, Option, IfSome, if◌then◌else◌, ◌==◌, inl, inr, refl, sym, ap, ◌∙◌, arith, cases_Bool, eqb-true, nat_tests, sum_by, sum_by-cons, Fork, ForkId, ForkRecord, ForkBook, IsBook, EachIdOnce, EndsAreSlots, Onward, behind, book_with_fork, first_id, is_end, is_in_use, other_end, reached, record_of, slot_list, end_with, holder, dirtied, option_map, CanCount, CanPut, Count, IsCounted, IsTiedBut, IsSeenAlike, IsSided, both_recounted, recounted, count_at, count_in, is_marked, is_reached, is_reached_at, lacks, relieved, seen_book, seen_record, times_reached, walked_at, false≢true}
+use Rattle.std.proofs.Common.{set-set}
 use Rattle.dine_forks.specs.declared.record.At.{At}
 use Rattle.dine_forks.specs.Edges.{is_first}
 use Rattle.dine_forks.specs.Sending.{after}
@@ -93,6 +94,15 @@ seen-alike lists marks = record { slots = refl; marked = refl; same = refl; coun
 -- a fork that gets dirty stays in each count
 recount-same : (first : Bool) (had : Fork) (c : Count) → one_if (lacks first had) ≤ c.lacked → one_if (is_asked first had) ≤ c.asked → recounted first (had) (dirtied had) c ≡ c
 recount-same first had c lacked asked = grind (arith)
+
+-- the numbers of a slot are changed one behind the other, and then those of the other end
+pub recounts : (counts : List Count) (slot other : ℕ) (first : Bool) (had fork : Fork) (a l m : ℕ) (x : Count) → CanCount first slot other had counts → a ≡ (recounted first had fork (count_at counts slot)).asked → l ≡ one_if (lacks first had) → m ≡ one_if (lacks first fork)
+    → let one = set counts slot record { lacked = (count_at counts slot).lacked; asked = a } in let two = set one slot record { lacked = (count_at one slot).lacked - l + m; asked = (count_at one slot).asked } in
+    x ≡ recounted (not first) had fork (count_at two other) → set two other x ≡ both_recounted first slot other had fork counts
+recounts counts slot other first had fork a l m x can asked was is same =
+    let half : Count = record { lacked = (count_at counts slot).lacked; asked = a } in let all = recounted first had fork (count_at counts slot) in
+    let both = ap (λ (k : Count). set (set counts slot half) slot record { lacked = k.lacked - l + m; asked = k.asked }) (get_or-set_same counts slot half no_count can.here.within) ∙ set-set counts slot half record { lacked = half.lacked - l + m; asked = a } ∙ rw (asked, was, is) refl in
+    λ j. set (both j) other ((same ∙ ap (λ (cs : List Count). recounted (not first) had fork (count_at cs other)) both ∙ ap (recounted (not first) had fork) (get_or-set_other counts slot other all no_count can.apart)) j)
 
 -- so both counts stay
 pub both-same : (first : Bool) (slot other : ℕ) (had : Fork) (counts : List Count) → CanCount first slot other had counts → both_recounted first slot other had (dirtied had) counts ≡ counts

@@ -54,9 +54,9 @@ impl Count {
     }
 }
 
-// 1 if the end lacks the fork, and else 0.
+/// 1 if the end lacks the fork, and else 0.
 #[inline(always)]
-fn lacked_at(first: bool, fork: Fork) -> u32
+pub fn lacked_at(first: bool, fork: Fork) -> u32
     ensures { result ≡ one_if (lacks first fork) }
 {
     u32::from(fork.at_first != first)
