@@ -1,8 +1,7 @@
 //! The arbiter: tasks in their seats, and a book of the forks between them.
 //!
-//! A task begins to eat by the forks that it holds, and by nothing else. The stamps of the seats,
-//! which tell the order of last meals, only say who holds the fork of a new conflict and which of
-//! the ready tasks comes first.
+//! A task begins to eat by the forks that it holds, and by nothing else. The stamps of the seats, which tell the order of last
+//! meals, only say who holds the fork of a new conflict and which of the ready tasks comes first.
 
 #![tactic(auto, using(crate::proofs::Seen::seen))]
 

@@ -13,9 +13,8 @@ use dine_words::State;
 
 /// Lets the two ends, which are in these states, send token and fork until neither rule is enabled.
 ///
-/// The number is the messages sent, 0 to 3: each is one token or one fork. Any fork and any two states will do, also
-/// such as never stand between calls of the arbiter. That the rules run at once is this project's own: in the 1984 paper
-/// messages travel.
+/// The number is the messages sent, 0 to 3: each is one token or one fork. Any fork and any two states will do, also such as
+/// never stand between calls of the arbiter. That the rules run at once is this project's own: in the 1984 paper messages travel.
 #[inline(always)]
 pub fn settle_edge(fork: Fork, first: State, second: State) -> (Fork, u8)
     ensures reached { ReachedBy result.1 fork first second result.0 }
@@ -65,8 +64,7 @@ pub(crate) fn sent_back(fork: Fork, is_first: bool) -> Sent
 
 /// The fork of a new conflict: the end with the later meal holds it, dirty, and the other end has the token.
 ///
-/// The 1984 paper starts with such forks, on a graph that is fixed. Conflicts that are declared later are this
-/// project's own.
+/// The 1984 paper starts with such forks, on a graph that is fixed. Conflicts that are declared later are this project's own.
 pub(crate) fn new_fork(first_is_sooner: bool) -> Fork
     ensures { result ≡ new_fork first_is_sooner }
 {

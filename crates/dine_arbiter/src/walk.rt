@@ -12,8 +12,7 @@ use dine_forks::ForkBook;
 use dine_words::Task;
 use std::alloc::{AllocError, Global};
 
-/// Adds the record of a new conflict between the tasks at two slots, whose edge comes to rest at once, and returns
-/// the messages.
+/// Adds the record of a new conflict between the tasks at two slots, whose edge comes to rest at once, and returns the messages.
 #[tactic(auto, using(crate::proofs::Settling::where_quiet))]
 pub fn link_between(seats: &Seats, book: &mut ForkBook, first: u32, second: u32) -> u32
     requires { MayLink seats.now book.old first second }

@@ -13,11 +13,11 @@ pub use Rattle.dine_forks.proofs.Providing.{few-stored, free_of, list_end, nodes
 pub use Rattle.dine_forks.proofs.Rows.{CanMove, can_move, has_place-same, last_has_place, moved, moved_from, moved_left, moved_ordered, moved_to, near, ordered, ordered-turned, split_last, split_listed}
 pub use Rattle.dine_forks.proofs.Same.{Keeps, book_moved, free_same, ids_same, keeps-cut, keeps-hung, keeps-set, ordered_same, records_moved, stored_moved}
 pub use Rattle.dine_forks.proofs.Searching.{IsSearching, along_second, few_read, few_records_read, id_between-turned, other-is-first, other-is-second, records_read-seen, search-ends, search-goes_on, search-start}
-pub use Rattle.dine_forks.proofs.Seen.{are_joined-seen, degree-seen, first-seen, holds_all-seen, id_between-seen, is_in_use-seen, listed-seen, next-seen, once-seen, seen-same, seen_all, told_seen, without-seen}
+pub use Rattle.dine_forks.proofs.Seen.{are_joined-seen, degree_seen, first-seen, holds_all-seen, id_between_seen, is_in_use-seen, listed-seen, next-seen, once-seen, seen-same, seen_all, told_seen, without-seen}
 pub use Rattle.dine_forks.proofs.Signing.{none-between, signed-linked, signed-unlinked}
 pub use Rattle.dine_forks.proofs.SlotBits.{all-true, begins, found_end, found_here, found_later, found_nowhere, has_bits, has_word, insert-kept, remove-emptied}
 pub use Rattle.dine_forks.proofs.Tied.{both-are, can-add, can-come, can-remove, count-seen, dirt-alike, ends-at, found-alike, lacks-some, more-at, none-held, none_lacked, set-both, settled, taken-out, taker-in, tied-added, tied-alike, tied-empty, tied-put, tied-removed}
-pub use Rattle.dine_forks.proofs.Walking.{all-goes_on, both-same, can-count, end-is, ended-met, ended-tied, ended-walked, found-seen, gains-is, idle, kept-seen, other-in, owns, put-seen-at, put-tied, put-used, reached-asked, reached-lacked, rests, runs, seen-alike, seen-clean, seen-on, seen-sided, some-start, walk-idle, walked-all, walked-seen, walked-start}
+pub use Rattle.dine_forks.proofs.Walking.{all-goes_on, both-same, can-count, end-is, ended-met, ended-tied, ended-walked, found-seen, gains-is, idle, kept-seen, other-in, owns, put-seen-at, put-tied, put-used, recounts, reached-asked, reached-lacked, rests, runs, seen-alike, seen-clean, seen-on, seen-sided, some-start, walk-idle, walked-all, walked-seen, walked-start}
 pub use Rattle.dine_forks.proofs.Walks.{IsChanging, Visits, at-record, at-visit, changing-goes_on, changing-on, changing-start, goes-on_some, length-goes_on, rest-start, rest_of, some-goes_on, sum-goes_on}
 pub use Rattle.dine_forks.specs.Book.{is_full}
 pub use Rattle.dine_forks.specs.Edges.{is_first}

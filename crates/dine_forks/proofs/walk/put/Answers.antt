@@ -1,5 +1,4 @@
-use Rattle.dine_forks.proofs.Walking.{recounts}
-use Rattle.dine_forks.proofs.Lemmas.{rules}
+use Rattle.dine_forks.proofs.Lemmas.{recounts, rules}
 use Rattle.dine_forks.proofs.walk.put.Goals as goal
 
 pub returns-clause-counts : goal.returns-clause-counts
