@@ -15,7 +15,7 @@ use Rattle.dine_streams.specs.Written.{AppendsLinesOf, AppendsPartOf}
 use Rattle.dine_serve.specs.Streams.{HasAnswered}
 use Rattle.dine_script.proofs.CallerLemmas.{both_known}
 use Rattle.dine_streams.specs.Ending.{end_of}
-use Rattle.dine_serve.proofs.CallerLemmas.{of_known}
+use Rattle.dine_streams.proofs.CallerLemmas.{of_known}
 use Rattle.dine_streams.specs.Reported.{IsReported}
 use Rattle.dine_cli.specs.Resumed.{IsResumed, IsResumedAtRead, IsResumedInLines, IsResumedInPart}
 

@@ -15,7 +15,7 @@ use Rattle.dine_replay.specs.Audit.{TellsOfText}
 use Rattle.dine_journal.specs.JournalText.{text_of_version}
 use Rattle.dine_streams.specs.Lines.{ended_lines}
 use Rattle.dine_replay.specs.Replaying.{IsRefusal}
-use Rattle.dine_serve.specs.Serving.{Broker, has_fault_of, said_to_input, standing_at}
+use Rattle.dine_serve.specs.Serving.{has_fault_of, said_to_input, standing_at}
 use Rattle.dine_streams.specs.Written.{AppendsLinesOf, AppendsPartOf}
 use Rattle.dine_serve.specs.Streams.{HasAnswered}
 use Rattle.dine_words.specs.Texts.{text_of_lines}
@@ -48,20 +48,6 @@ IsFound text (Legal version limits history) = HoldsJournal version limits histor
 
 -- ---- what is written after it
 
--- all is written over the input that is said to it from where a broker stands, and the run ends so
-abbrev pub IsServed : Broker → Option (List ℕ) → Option (List ℕ) → Option (List ℕ) → Ended → Type 0
-IsServed s input old new end =
-    IfSome input (λ bytes.
-    Appends old new (text_of_lines (said_to_input s bytes)) × (end ≡ end_of (has_fault_of s bytes)))
-
--- some lines of it are written
-abbrev pub IsServedInLines : Broker → Option (List ℕ) → Option (List ℕ) → Option (List ℕ) → Type 0
-IsServedInLines s input old new = IfSome input (λ bytes. AppendsLinesOf old new (said_to_input s bytes))
-
--- a part of it is written
-abbrev pub IsServedInPart : Broker → Option (List ℕ) → Option (List ℕ) → Option (List ℕ) → Type 0
-IsServedInPart s input old new = IfSome input (λ bytes. AppendsPartOf old new (text_of_lines (said_to_input s bytes)))
-
 -- the answer to a journal of an older version than is written
 abbrev pub version_fault : List ℕ
 version_fault = codes "fault version\n"
@@ -70,7 +56,10 @@ version_fault = codes "fault version\n"
 abbrev pub IsGoneOn :
     Option ℕ → JournalVersion → Table → Option (List ℕ) → Option (List ℕ) → Option (List ℕ) → Ended → Type 0
 IsGoneOn passes One t input old new end = Appends old new version_fault × (end ≡ ended.Fault)
-IsGoneOn passes Two t input old new end = IsServed (standing_at t passes) input old new end
+IsGoneOn passes Two t input old new end =
+    IfSome input (λ bytes.
+    Appends old new (text_of_lines (said_to_input (standing_at t passes) bytes))
+    × (end ≡ end_of (has_fault_of (standing_at t passes) bytes)))
 
 -- a read failed, and all answers owed to the whole lines that were heard before are written
 abbrev pub IsGoneOnAtRead :
@@ -83,13 +72,15 @@ IsGoneOnAtRead passes Two t input rest old new = HasAnswered (standing_at t pass
 abbrev pub IsGoneOnInLines :
     Option ℕ → JournalVersion → Table → Option (List ℕ) → Option (List ℕ) → Option (List ℕ) → Type 0
 IsGoneOnInLines passes One t input old new = ⊥
-IsGoneOnInLines passes Two t input old new = IsServedInLines (standing_at t passes) input old new
+IsGoneOnInLines passes Two t input old new =
+    IfSome input (λ bytes. AppendsLinesOf old new (said_to_input (standing_at t passes) bytes))
 
 -- a part of the answers is written
 abbrev pub IsGoneOnInPart :
     Option ℕ → JournalVersion → Table → Option (List ℕ) → Option (List ℕ) → Option (List ℕ) → Type 0
 IsGoneOnInPart passes One t input old new = AppendsPartOf old new version_fault
-IsGoneOnInPart passes Two t input old new = IsServedInPart (standing_at t passes) input old new
+IsGoneOnInPart passes Two t input old new =
+    IfSome input (λ bytes. AppendsPartOf old new (text_of_lines (said_to_input (standing_at t passes) bytes)))
 
 -- ---- what is written of a text
 

@@ -2,10 +2,11 @@
 
 ghost use Rattle.std.specs.Prelude.{◌≡◌, ◌⊎◌, [], true, IfOk, IfSome, OnOk};
 ghost use Rattle.dine_replay.specs.Replaying.{IsMarkedOrEndless};
-ghost use Rattle.dine_words.specs.declared.version.JournalVersion.TheVariants.{Two};
-ghost use Rattle.dine_cli.specs.Resumed.{IsGoneOn, IsGoneOnAtRead, IsGoneOnInLines, IsGoneOnInPart, IsResumed, IsResumedAtRead, IsResumedInLines, IsResumedInPart, IsServed, IsServedInLines, IsServedInPart};
+ghost use Rattle.dine_cli.specs.Resumed.{IsGoneOn, IsGoneOnAtRead, IsGoneOnInLines, IsGoneOnInPart, IsResumed, IsResumedAtRead, IsResumedInLines, IsResumedInPart};
 ghost use Rattle.dine_script.specs.Streams.{IsMarked};
-ghost use Rattle.dine_serve.specs.Streams.{HasAnswered};
+ghost use Rattle.dine_serve.specs.Serving.{has_fault_of, standing_at};
+ghost use Rattle.dine_serve.specs.Streams.{Serves};
+ghost use Rattle.dine_streams.specs.Ending.{end_of};
 
 use crate::input_remarks::{explain_torn_line, explain_version};
 use dine_arbiter::Arbiter;
@@ -113,45 +114,14 @@ fn serve_on<R: Source, W: Sink>(
     writer: &mut W,
     passes: Option<u32>,
 ) -> Result<Ended, CliFault>
-    ensures ok { IfOk result (λ ended. IsGoneOn passes Two arbiter.table (R.remaining reader.old)
-        (W.contents writer.old) (W.contents writer.new) ended) }
-    ensures read { result ≡ Err CliFault.Read → IsGoneOnAtRead passes Two arbiter.table
+    ensures { Serves result
+        (λ ended input. ended ≡ end_of (has_fault_of (standing_at arbiter.table passes) input))
+        (standing_at arbiter.table passes) []
         (R.remaining reader.old) (R.remaining reader.new)
-        (W.contents writer.old) (W.contents writer.new) }
-    ensures memory { result ≡ Err CliFault.Memory →
-        IsGoneOnInLines passes Two arbiter.table (R.remaining reader.old)
-        (W.contents writer.old) (W.contents writer.new) }
-    ensures write { result ≡ Err CliFault.Write →
-        IsGoneOnInPart passes Two arbiter.table (R.remaining reader.old)
-        (W.contents writer.old) (W.contents writer.new) }
-    ensures marks { IsMarked result (R.mark reader.new ≡ true)
+        (W.contents writer.old) (W.contents writer.new)
         (R.mark reader.old) (R.mark reader.new) (W.mark writer.old) (W.mark writer.new) }
 {
     let mut broker = Broker::going_on(alloc, arbiter, passes)?;
-    answer_from(alloc, &mut broker, reader, writer)
-}
-
-// Answers each line from where a broker stands.
-fn answer_from<R: Source, W: Sink>(
-    alloc: Global,
-    broker: &mut Broker,
-    reader: &mut R,
-    writer: &mut W,
-) -> Result<Ended, CliFault>
-    ensures ok { IfOk result (λ ended. IsServed broker.old (R.remaining reader.old)
-        (W.contents writer.old) (W.contents writer.new) ended) }
-    ensures read { result ≡ Err CliFault.Read →
-        HasAnswered broker.old [] (R.remaining reader.old) (R.remaining reader.new)
-        (W.contents writer.old) (W.contents writer.new) }
-    ensures memory { result ≡ Err CliFault.Memory →
-        IsServedInLines broker.old (R.remaining reader.old)
-        (W.contents writer.old) (W.contents writer.new) }
-    ensures write { result ≡ Err CliFault.Write →
-        IsServedInPart broker.old (R.remaining reader.old)
-        (W.contents writer.old) (W.contents writer.new) }
-    ensures marks { IsMarked result (R.mark reader.new ≡ true)
-        (R.mark reader.old) (R.mark reader.new) (W.mark writer.old) (W.mark writer.new) }
-{
-    answer_all(alloc, broker, reader, writer)?;
+    answer_all(alloc, &mut broker, reader, writer)?;
     Ok(end_of(broker.has_fault()))
 }

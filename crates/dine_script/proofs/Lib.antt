@@ -1,9 +1,7 @@
-pub mod Steps
 pub mod Fronts
-pub mod FrontRuns
 pub mod JournalLines
+pub mod Scripts
 pub mod Legal
-pub mod PrintedLines
 pub mod UsualLines
 pub mod ShortLines
 pub mod CallerLemmas

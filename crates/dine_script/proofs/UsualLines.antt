@@ -18,8 +18,8 @@ use Rattle.dine_lines.specs.declared.print.Print.{Print}
 use Rattle.dine_script.proofs.Fronts.{takes-one}
 use Rattle.dine_script.specs.declared.command.Command.TheVariants as command
 use Rattle.dine_script.specs.Commands.{command_of, reading_of, some_command, usual_command}
-use Rattle.dine_script.specs.Printed.{TakesLines, printed_by}
-use Rattle.dine_script.specs.Script.{Session, after_command}
+use Rattle.dine_script.specs.Printed.{TakesLines}
+use Rattle.dine_script.specs.Script.{Session, after_command, printed_by}
 use Rattle.dine_words.specs.Texts.{text_of_lines}
 
 -- a name is short
@@ -96,7 +96,7 @@ left-of line rest text is =
     sym (ap (λ n. drop n text) some ∙ ap (drop (suc (length line))) is ∙ left-is line rest 10)
 
 -- so one that begins a text is carried out as the first line
-pub takes-usual : (print : Print) (s t : Session) (asked : Usual) (text rest before after : List ℕ) → BeginsUsual s.names asked text rest → t ≡ after_command s (usual_command asked) → after ≡ before ++ text_of_lines (printed_by print s.table (usual_command asked)) → TakesLines print s t text rest before after 0
+pub takes-usual : (print : Print) (s t : Session) (asked : Usual) (text rest before after : List ℕ) → BeginsUsual s.names asked text rest → t ≡ after_command s (usual_command asked) → after ≡ before ++ text_of_lines (printed_by print s.table (usual_command asked)) → TakesLines print s t text rest before after false
 takes-usual print s t asked text rest before after found stands output =
     let read = reading_of-usual s.names asked found.line found.usual in
     takes-one print s t text rest before after false
@@ -111,7 +111,7 @@ takes-usual print s t asked text rest before after found stands output =
     }
 
 -- a line that is passed over leaves the script as it was, and adds nothing to its output
-pub takes-comment : (print : Print) (s : Session) (text rest before : List ℕ) → PassesFirst text rest → TakesLines print s s text rest before before 0
+pub takes-comment : (print : Print) (s : Session) (text rest before : List ℕ) → PassesFirst text rest → TakesLines print s s text rest before before false
 takes-comment print s text rest before found =
     let read : reading_of s.names found.line ≡ Ok None = rw (found.short, found.passed) refl in
     takes-one print s s text rest before before false
@@ -131,7 +131,7 @@ none_of None free = refl
 none_of (Some t) free = let none : false ≡ true = free in cc
 
 -- so is a line that joins with a free name
-pub takes-join : (print : Print) (s t : Session) (name text rest before after : List ℕ) → is_name name ≡ true → not (is_some (task_named s.names name)) ≡ true → text ≡ join_word ++ 32 ∷ name ++ 10 ∷ rest → t ≡ after_command s (command.Join name) → after ≡ before ++ text_of_lines (printed_by print s.table (command.Join name)) → TakesLines print s t text rest before after 0
+pub takes-join : (print : Print) (s t : Session) (name text rest before after : List ℕ) → is_name name ≡ true → not (is_some (task_named s.names name)) ≡ true → text ≡ join_word ++ 32 ∷ name ++ 10 ∷ rest → t ≡ after_command s (command.Join name) → after ≡ before ++ text_of_lines (printed_by print s.table (command.Join name)) → TakesLines print s t text rest before after false
 takes-join print s t name text rest before after letters free is stands output =
     let free_name : IsFreeName s.names name = record { letters = letters; free = none_of (task_named s.names name) free } in
     let begins = begins-free s.names name text (name ++ 10 ∷ rest) rest is free_name refl in
@@ -140,28 +140,28 @@ takes-join print s t name text rest before after letters free is stands output =
 -- ---- lines of a word and names that are bound
 
 -- so is a call about one task
-pub takes-call : (print : Print) (s t : Session) (asked : CallOnOne) (u : Task) (text rest before after : List ℕ) → BeginsOne s.names (word_on_one asked) (Some u) text rest → t ≡ after_command s (usual_command (usual.OnOne asked u)) → after ≡ before ++ text_of_lines (printed_by print s.table (usual_command (usual.OnOne asked u))) → TakesLines print s t text rest before after 0
+pub takes-call : (print : Print) (s t : Session) (asked : CallOnOne) (u : Task) (text rest before after : List ℕ) → BeginsOne s.names (word_on_one asked) (Some u) text rest → t ≡ after_command s (usual_command (usual.OnOne asked u)) → after ≡ before ++ text_of_lines (printed_by print s.table (usual_command (usual.OnOne asked u))) → TakesLines print s t text rest before after false
 takes-call print s t asked u text rest before after begun stands output =
     takes-usual print s t (usual.OnOne asked u) text rest before after
     record { line = word_on_one asked ++ 32 ∷ begun.name; usual = record { name = begun.name; letters = begun.letters; bound = begun.named; is = refl }; is = begun.is }
     stands output
 
 -- a question for a state
-pub takes-state : (print : Print) (s t : Session) (u : Task) (text rest before after : List ℕ) → BeginsOne s.names (codes "state") (Some u) text rest → t ≡ s → after ≡ before ++ text_of_lines (printed_by print s.table (command.State u)) → TakesLines print s t text rest before after 0
+pub takes-state : (print : Print) (s t : Session) (u : Task) (text rest before after : List ℕ) → BeginsOne s.names (codes "state") (Some u) text rest → t ≡ s → after ≡ before ++ text_of_lines (printed_by print s.table (command.State u)) → TakesLines print s t text rest before after false
 takes-state print s t u text rest before after begun stands output =
     takes-usual print s t (usual.State u) text rest before after
     record { line = codes "state" ++ 32 ∷ begun.name; usual = record { name = begun.name; letters = begun.letters; bound = begun.named; is = refl }; is = begun.is }
     stands output
 
 -- and one for neighbours
-pub takes-neighbours : (print : Print) (s t : Session) (u : Task) (text rest before after : List ℕ) → BeginsOne s.names (codes "neighbours") (Some u) text rest → t ≡ s → after ≡ before ++ text_of_lines (printed_by print s.table (command.Neighbours u)) → TakesLines print s t text rest before after 0
+pub takes-neighbours : (print : Print) (s t : Session) (u : Task) (text rest before after : List ℕ) → BeginsOne s.names (codes "neighbours") (Some u) text rest → t ≡ s → after ≡ before ++ text_of_lines (printed_by print s.table (command.Neighbours u)) → TakesLines print s t text rest before after false
 takes-neighbours print s t u text rest before after begun stands output =
     takes-usual print s t (usual.Neighbours u) text rest before after
     record { line = codes "neighbours" ++ 32 ∷ begun.name; usual = record { name = begun.name; letters = begun.letters; bound = begun.named; is = refl }; is = begun.is }
     stands output
 
 -- and a call about two tasks
-pub takes-pair : (print : Print) (s t : Session) (asked : CallOnTwo) (u v : Task) (text rest before after : List ℕ) → BeginsTwo s.names (word_on_two asked) (Some u) (Some v) text rest → t ≡ after_command s (usual_command (usual.OnTwo asked u v)) → after ≡ before ++ text_of_lines (printed_by print s.table (usual_command (usual.OnTwo asked u v))) → TakesLines print s t text rest before after 0
+pub takes-pair : (print : Print) (s t : Session) (asked : CallOnTwo) (u v : Task) (text rest before after : List ℕ) → BeginsTwo s.names (word_on_two asked) (Some u) (Some v) text rest → t ≡ after_command s (usual_command (usual.OnTwo asked u v)) → after ≡ before ++ text_of_lines (printed_by print s.table (usual_command (usual.OnTwo asked u v))) → TakesLines print s t text rest before after false
 takes-pair print s t asked u v text rest before after begun stands output =
     takes-usual print s t (usual.OnTwo asked u v) text rest before after
     record { line = word_on_two asked ++ 32 ∷ begun.first ++ 32 ∷ begun.second; usual = record { first = begun.first; second = begun.second; first_letters = begun.first_letters; second_letters = begun.second_letters; first_bound = begun.first_named; second_bound = begun.second_named; is = refl }; is = begun.is }

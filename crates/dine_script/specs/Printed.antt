@@ -1,72 +1,21 @@
--- What each line of a script adds to its output, by what is printed: its answer, or the line of its call in the journal.
-use Rattle.std.specs.Prelude.{◌≡◌, ◌<◌, ◌≤◌, ◌+◌, ◌-◌, ◌^◌, ℕ, Bool, List, [], ◌∷◌, ◌++◌, drop, length, codes, Option, Some, None, Result, Ok, Err}
+-- What the steps of a script do: to where it stands, and to what is printed.
+use Rattle.std.specs.Prelude.{◌≡◌, ◌<◌, ◌≤◌, ◌-◌, ℕ, Bool, true, false, ◌||◌, List, map, ◌∷◌, ◌++◌, drop, length, Result, Ok, Err}
 use Rattle.std.specs.Borrow.{Bor}
-use Rattle.dine_words.specs.declared.call.Call.{Call}
-use Rattle.dine_words.specs.declared.call.Call.TheVariants as call
-use Rattle.dine_words.specs.declared.call.Reply.{Reply}
-use Rattle.dine_words.specs.declared.limits.Limits.{Limits}
-use Rattle.dine_table.specs.Table.{Table}
-use Rattle.dine_table.specs.Calls.{reply_of}
-use Rattle.dine_words.specs.Texts.{entry_text, header_text, reply_text, text_of_lines}
-use Rattle.dine_words.specs.Versions.{written_version}
-use Rattle.dine_lines.specs.declared.line_fault.LineFault.{LineFault}
-use Rattle.dine_lines.specs.Faults.{fault_text}
+use Rattle.dine_words.specs.Texts.{text_of_lines}
 use Rattle.dine_lines.specs.Lines.{lines_of}
-use Rattle.dine_streams.specs.Inputs.{HeardInput, IsHeardSoFar}
+use Rattle.dine_streams.specs.Lines.{seen_of}
+use Rattle.dine_streams.specs.Machines.{left_by, printed_from}
 use Rattle.dine_lines.specs.declared.print.Print.{Print}
-use Rattle.dine_lines.specs.declared.print.Print.TheVariants.{Replies, Journal}
 use Rattle.dine_script.specs.declared.command.Command.{Command}
-use Rattle.dine_script.specs.declared.command.Command.TheVariants as command
 use Rattle.dine_script.specs.declared.carried.Carried.{Carried}
 use Rattle.dine_script.specs.declared.carried.Carried.TheVariants as carried
 use Rattle.dine_script.specs.Commands.{reading_of}
-use Rattle.dine_script.specs.Script.{Session, after_command, after_reading, answer_of, faults_from, is_fault}
-
--- the line of a call that was answered so: its reply, or its entry
-abbrev pub call_line : Print → Call → Reply → List ℕ
-call_line Replies asked reply = reply_text reply
-call_line Journal asked reply = entry_text record { pass = 0; call = asked; reply = reply }
-
--- the lines of what is no call: a journal has none
-abbrev pub lines_beside : Print → List ℕ → List (List ℕ)
-lines_beside Replies text = text ∷ []
-lines_beside Journal text = []
-
--- the lines of a command, in a table
-abbrev pub printed_by : Print → Table → Command → List (List ℕ)
-printed_by print table (command.Join name) = call_line print call.Join (reply_of table call.Join) ∷ []
-printed_by print table (command.Call asked) = call_line print asked (reply_of table asked) ∷ []
-printed_by print table (command.State t) = lines_beside print (answer_of table (command.State t))
-printed_by print table (command.Neighbours t) = lines_beside print (answer_of table (command.Neighbours t))
-printed_by print table command.Next = lines_beside print (answer_of table command.Next)
-
--- the lines of a line that was read so
-abbrev pub printed_of : Print → Session → Result (Option Command) LineFault → List (List ℕ)
-printed_of print s (Ok None) = []
-printed_of print s (Ok (Some asked)) = printed_by print s.table asked
-printed_of print s (Err reason) = lines_beside print (codes "fault " ++ fault_text reason)
-
--- the lines of these lines, one after the other
-abbrev pub printed_from : Print → Session → List (List ℕ) → List (List ℕ)
-printed_from print s [] = []
-printed_from print s (line ∷ lines) =
-    let reading = reading_of s.names line in
-    printed_of print s reading ++ printed_from print (after_reading s reading) lines
-
--- the lines before the first: a journal has its header
-abbrev pub opening_lines : Print → Limits → List (List ℕ)
-opening_lines Replies limits = []
-opening_lines Journal limits = header_text written_version limits ∷ []
+use Rattle.dine_script.specs.Script.{Script, Session, after_command, after_reading, is_fault, printed_by, printed_of, scripts}
 
 -- a command was carried out: where the script stands now, and what was appended, are those of the command
 pub record CarriesOutCommand (print : Print) (old new : Session) (asked : Command) (before behind : List ℕ) : Type 0 where
   pub after : new ≡ after_command old asked
   pub output : behind ≡ before ++ text_of_lines (printed_by print old.table asked)
-
--- the first line of a text can be carried out: there is one, and the clock of the table isn't full
-pub record CanTakeFirst (s : Session) (text : List ℕ) : Type 0 where
-  pub some : 0 < length text
-  pub clock : s.table.clock < 2 ^ 64 - 1
 
 -- the first line of the text was carried out, and then comes the rest: where the script stands now, what was appended,
 -- and whether the line has a fault, are those of its reading
@@ -80,77 +29,41 @@ pub record TakesFirst
   pub stands : new ≡ after_reading old (reading_of old.names line)
   pub output : after ≡ before ++ text_of_lines (printed_of print old (reading_of old.names line))
 
--- of these lines those before the rest were carried out: whatever lines come behind, what is printed of those was appended,
--- and so many of those have a fault
+-- a script that stands so, behind lines of which one has a fault, or none
+abbrev pub standing : Print → Session → Bool → Script
+standing print session fault = record { session = session; print = print; has_fault = fault }
+
+-- of these lines those before the rest were carried out: they left the script so, one of them has a fault or none has, and
+-- what is printed of them was appended, whatever came before
 pub record TakesSome
-    (print : Print) (old new : Session) (lines rest : List (List ℕ)) (before after : List ℕ) (faults : ℕ) : Type 0 where
+    (print : Print) (old new : Session) (lines rest : List (List ℕ)) (before after : List ℕ) (fault : Bool) : Type 0 where
   pub done : List (List ℕ)
-  pub printed : (more : List (List ℕ)) → printed_from print old (lines ++ more) ≡ done ++ printed_from print new (rest ++ more)
-  pub counted : (more : List (List ℕ)) → faults_from old (lines ++ more) ≡ faults + faults_from new (rest ++ more)
-  pub output : after ≡ before ++ text_of_lines done
+  pub cut : lines ≡ done ++ rest
+  pub leaves : (had : Bool) → standing print new (had || fault) ≡ left_by scripts (standing print old had) (map seen_of done)
+  pub output : (had : Bool) → after ≡ before ++ text_of_lines (printed_from scripts (standing print old had) (map seen_of done))
 
 -- the lines at the front of a text were carried out, up to what is left of it
 pub record TakesLines
-    (print : Print) (old new : Session) (text rest before after : List ℕ) (faults : ℕ) : Type 0 where
-  pub takes : TakesSome print old new (lines_of text) (lines_of rest) before after faults
+    (print : Print) (old new : Session) (text rest before after : List ℕ) (fault : Bool) : Type 0 where
+  pub takes : TakesSome print old new (lines_of text) (lines_of rest) before after fault
   pub left : rest ≡ drop (length text - length rest) text
   pub short : length rest ≤ length text
   pub some : 0 < length text → length rest < length text
-  pub few : faults + length rest ≤ length text
-  pub clock : new.table.clock + length rest ≤ old.table.clock + length text
 
--- so were the first line, and maybe some behind it: how many have a fault, and the rest, are what is answered. Where an error
+-- so were the first line, and maybe some behind it: whether one has a fault, and the rest, are what is answered. Where an error
 -- came, nothing was appended
-abbrev pub TakesSomeOrFails : {E : Type 0} → Print → Session → Session → List ℕ → List ℕ → List ℕ → Result (ℕ × Bor (List ℕ)) E → Type 0
+abbrev pub TakesSomeOrFails : {E : Type 0} → Print → Session → Session → List ℕ → List ℕ → List ℕ → Result (Bool × Bor (List ℕ)) E → Type 0
 TakesSomeOrFails print old new text before after (Ok taken) = TakesLines print old new text taken.1.now before after taken.0
 TakesSomeOrFails print old new text before after (Err error) = after ≡ before
 
 -- so were lines at the front of a text, and so many bytes are left
 pub record TakesUpTo
-    (print : Print) (old new : Session) (text : List ℕ) (left : ℕ) (before after : List ℕ) (faults : ℕ) : Type 0 where
+    (print : Print) (old new : Session) (text : List ℕ) (left : ℕ) (before after : List ℕ) (fault : Bool) : Type 0 where
   pub within : left ≤ length text
-  pub taken : TakesLines print old new text (drop (length text - left) text) before after faults
+  pub taken : TakesLines print old new text (drop (length text - left) text) before after fault
 
 -- so were they, unless memory ran out, and then nothing was appended: this came of them
 abbrev pub TakesSomeOrNoMemory : Print → Session → Session → List ℕ → List ℕ → List ℕ → Carried → Type 0
-TakesSomeOrNoMemory print old new text before after (carried.Good left) = TakesUpTo print old new text left before after 0
-TakesSomeOrNoMemory print old new text before after (carried.Faulty left) = TakesUpTo print old new text left before after 1
+TakesSomeOrNoMemory print old new text before after (carried.Good left) = TakesUpTo print old new text left before after false
+TakesSomeOrNoMemory print old new text before after (carried.Faulty left) = TakesUpTo print old new text left before after true
 TakesSomeOrNoMemory print old new text before after carried.NoMemory = after ≡ before
-
--- so were lines of whole ones at the front of a text, whatever bytes come behind it
-pub record TakesFront
-    (print : Print) (old new : Session) (text rest before after : List ℕ) (faults : ℕ) : Type 0 where
-  pub done : List (List ℕ)
-  pub printed : (more : List ℕ) → printed_from print old (lines_of (text ++ more)) ≡ done ++ printed_from print new (lines_of (rest ++ more))
-  pub counted : (more : List ℕ) → faults_from old (lines_of (text ++ more)) ≡ faults + faults_from new (lines_of (rest ++ more))
-  pub output : after ≡ before ++ text_of_lines done
-  pub few : faults + length rest ≤ length text
-  pub clock : new.table.clock + length rest ≤ old.table.clock + length text
-
--- so were those at the front of what was heard of an input, and what is left of it is the text
-pub record IsFrontRun
-    (print : Print) (old new : Session) (first now : Option (List ℕ)) (input : HeardInput) (before after : List ℕ) (faults : ℕ) : Type 0 where
-  pub bytes : List ℕ
-  pub so_far : IsHeardSoFar bytes first now input
-  pub takes : TakesFront print old new bytes input.text before after faults
-
--- what was appended was printed of lines at the front of these, whatever comes behind them. Nothing is told of the others
-pub record PrintsSome (print : Print) (s : Session) (lines : List (List ℕ)) (before after : List ℕ) : Type 0 where
-  pub done : List (List ℕ)
-  pub others : List (List ℕ) → List (List ℕ)
-  pub printed : (more : List (List ℕ)) → printed_from print s (lines ++ more) ≡ done ++ others more
-  pub output : after ≡ before ++ text_of_lines done
-
--- what was appended was printed of lines at the front of a text, whatever bytes come behind it
-pub record PrintsFront (print : Print) (s : Session) (text before after : List ℕ) : Type 0 where
-  pub done : List (List ℕ)
-  pub others : List ℕ → List (List ℕ)
-  pub printed : (more : List ℕ) → printed_from print s (lines_of (text ++ more)) ≡ done ++ others more
-  pub output : after ≡ before ++ text_of_lines done
-
--- so it was at the front of what was heard of an input
-pub record IsFrontPrinted
-    (print : Print) (s : Session) (first now : Option (List ℕ)) (input : HeardInput) (before after : List ℕ) : Type 0 where
-  pub bytes : List ℕ
-  pub so_far : IsHeardSoFar bytes first now input
-  pub prints : PrintsFront print s bytes before after

@@ -1,5 +1,5 @@
--- What a script's lines are answered, one after the other, and the history of the calls that they make.
-use Rattle.std.specs.Prelude.{◌+◌, if◌then◌else◌, ℕ, Bool, true, false, ◌||◌, List, map, [], ◌∷◌, ◌++◌, codes, Option, Some, None, Result, Ok, Err}
+-- What is printed of a script's lines, one after the other, and the history of the calls that they make.
+use Rattle.std.specs.Prelude.{ℕ, Bool, true, false, ◌||◌, List, map, [], ◌∷◌, ◌++◌, codes, Option, Some, None, Result, Ok, Err}
 use Rattle.dine_words.specs.declared.call.Call.{Call}
 use Rattle.dine_words.specs.declared.call.Call.TheVariants as call
 use Rattle.dine_words.specs.declared.call.Reply.{Reply}
@@ -14,9 +14,12 @@ use Rattle.dine_words.specs.JournalText.{journal_text}
 use Rattle.dine_script.specs.declared.command.Command.{Command}
 use Rattle.dine_script.specs.declared.command.Command.TheVariants as command
 use Rattle.dine_lines.specs.declared.line_fault.LineFault.{LineFault}
+use Rattle.dine_lines.specs.declared.line_fault.LineFault.TheVariants as fault
 use Rattle.dine_lines.specs.Faults.{fault_text}
 use Rattle.dine_streams.specs.declared.ended.Ended.{Ended}
 use Rattle.dine_streams.specs.Ending.{end_of}
+use Rattle.dine_streams.specs.Lines.{seen_of}
+use Rattle.dine_streams.specs.Machines.{Rules, printed_for, standing_after}
 use Rattle.dine_lines.specs.declared.print.Print.{Print}
 use Rattle.dine_lines.specs.declared.print.Print.TheVariants.{Replies, Journal}
 use Rattle.dine_lines.specs.Lines.{lines_of}
@@ -33,15 +36,26 @@ pub record Session : Type 0 where
 abbrev pub opening : Limits → Session
 opening limits = record { table = opening_table limits; names = [] }
 
--- ---- answers
+-- ---- what is printed
 
--- the answer to a command, in a table
-abbrev pub answer_of : Table → Command → List ℕ
-answer_of table (command.Join name) = reply_text (reply_of table call.Join)
-answer_of table (command.Call asked) = reply_text (reply_of table asked)
-answer_of table (command.State t) = codes "state " ++ state_or_none (state_of table t)
-answer_of table (command.Neighbours t) = codes "neighbours" ++ tasks_or_none (neighbours_if_present table t)
-answer_of table command.Next = codes "next " ++ task_or_none (next_ready_of table)
+-- the line of a call that was answered so: its reply, or its entry in a journal. A script's calls are on pass 0
+abbrev pub call_line : Print → Call → Reply → List ℕ
+call_line Replies asked reply = reply_text reply
+call_line Journal asked reply = entry_text record { pass = 0; call = asked; reply = reply }
+
+-- the lines of what is no call: a journal has none
+abbrev pub lines_beside : Print → List ℕ → List (List ℕ)
+lines_beside Replies text = text ∷ []
+lines_beside Journal text = []
+
+-- the lines of a command, in a table
+abbrev pub printed_by : Print → Table → Command → List (List ℕ)
+printed_by print table (command.Join name) = call_line print call.Join (reply_of table call.Join) ∷ []
+printed_by print table (command.Call asked) = call_line print asked (reply_of table asked) ∷ []
+printed_by print table (command.State t) = lines_beside print (codes "state " ++ state_or_none (state_of table t))
+printed_by print table (command.Neighbours t) =
+    lines_beside print (codes "neighbours" ++ tasks_or_none (neighbours_if_present table t))
+printed_by print table command.Next = lines_beside print (codes "next " ++ task_or_none (next_ready_of table))
 
 -- ---- what a command changes
 
@@ -65,11 +79,11 @@ after_command s command.Next = s
 
 -- ---- lines
 
--- the output lines of a line that was read so: one, or none where it is passed over
-abbrev pub output_of : Session → Result (Option Command) LineFault → List (List ℕ)
-output_of s (Ok None) = []
-output_of s (Ok (Some asked)) = answer_of s.table asked ∷ []
-output_of s (Err reason) = (codes "fault " ++ fault_text reason) ∷ []
+-- the lines that are printed of a line that was read so: none where it is passed over
+abbrev pub printed_of : Print → Session → Result (Option Command) LineFault → List (List ℕ)
+printed_of print s (Ok None) = []
+printed_of print s (Ok (Some asked)) = printed_by print s.table asked
+printed_of print s (Err reason) = lines_beside print (codes "fault " ++ fault_text reason)
 
 -- where the script stands after a line that was read so
 abbrev pub after_reading : Session → Result (Option Command) LineFault → Session
@@ -82,24 +96,62 @@ abbrev pub is_fault : Result (Option Command) LineFault → Bool
 is_fault (Ok asked) = false
 is_fault (Err reason) = true
 
--- the output lines of these lines, one line after the other
-abbrev pub output_from : Session → List (List ℕ) → List (List ℕ)
-output_from s [] = []
-output_from s (line ∷ lines) =
-    let reading = reading_of s.names line in output_of s reading ++ output_from (after_reading s reading) lines
+-- ---- a script as a command
 
--- one of these lines has a fault
-abbrev pub has_fault_from : Session → List (List ℕ) → Bool
-has_fault_from s [] = false
-has_fault_from s (line ∷ lines) =
-    let reading = reading_of s.names line in is_fault reading || has_fault_from (after_reading s reading) lines
+-- a script that is run: where it stands, what is printed of it, and whether a line had a fault
+pub record Script : Type 0 where
+  pub session : Session
+  pub print : Print
+  pub has_fault : Bool
 
--- how many of these lines have a fault
-abbrev pub faults_from : Session → List (List ℕ) → ℕ
-faults_from s [] = 0
-faults_from s (line ∷ lines) =
-    let reading = reading_of s.names line in
-    (if is_fault reading then 1 else 0) + faults_from (after_reading s reading) lines
+-- what a line asks for, as it is seen
+abbrev pub reading_seen : Names → Option (List ℕ) → Result (Option Command) LineFault
+reading_seen names None = Err fault.Words
+reading_seen names (Some line) = reading_of names line
+
+-- where the script stands after a line that was read so
+abbrev pub script_after : Script → Result (Option Command) LineFault → Script
+script_after s reading =
+    record s {
+      session = after_reading s.session reading;
+      has_fault = s.has_fault || is_fault reading;
+    }
+
+-- a line, as it is seen: what is printed of it, and where it leaves the script
+abbrev pub prints_seen : Script → Option (List ℕ) → List (List ℕ)
+prints_seen s line = printed_of s.print s.session (reading_seen s.session.names line)
+
+abbrev pub after_seen : Script → Option (List ℕ) → Script
+after_seen s line = script_after s (reading_seen s.session.names line)
+
+-- a last line that lacks its line feed is one all the same
+abbrev pub prints_unended : Script → List ℕ → List (List ℕ)
+prints_unended s [] = []
+prints_unended s (byte ∷ bytes) = prints_seen s (seen_of (byte ∷ bytes))
+
+abbrev pub after_unended : Script → List ℕ → Script
+after_unended s [] = s
+after_unended s (byte ∷ bytes) = after_seen s (seen_of (byte ∷ bytes))
+
+-- the lines before the first: a journal has its header
+abbrev pub opening_lines : Print → Limits → List (List ℕ)
+opening_lines Replies limits = []
+opening_lines Journal limits = header_text written_version limits ∷ []
+
+-- what a script is, as a command
+abbrev pub scripts : Rules Script
+scripts =
+    record {
+      prints_first = λ s. opening_lines s.print s.session.table.limits;
+      prints = prints_seen;
+      after = after_seen;
+      prints_last = prints_unended;
+      after_last = after_unended;
+    }
+
+-- a script of which no line was carried out
+abbrev pub at_first : Limits → Print → Script
+at_first limits print = record { session = opening limits; print = print; has_fault = false }
 
 -- ---- the calls that are made
 
@@ -139,7 +191,7 @@ journal_lines limits entries = header_text written_version limits ∷ map entry_
 
 -- the output lines of a script: its answers, or the lines of its journal alone
 abbrev pub output_lines : Print → Limits → List ℕ → List (List ℕ)
-output_lines Replies limits input = output_from (opening limits) (lines_of input)
+output_lines Replies limits input = printed_for scripts (at_first limits Replies) input
 output_lines Journal limits input = journal_lines limits (script_history limits input)
 
 -- the output of a script: its answers, each with its line feed, or the text of its journal alone
@@ -149,4 +201,4 @@ script_output Journal limits input = journal_text limits (script_history limits 
 
 -- how a script ends, whatever it prints: with a fault where a line has one. A refusal is no fault
 abbrev pub script_end : Limits → List ℕ → Ended
-script_end limits input = end_of (has_fault_from (opening limits) (lines_of input))
+script_end limits input = end_of (standing_after scripts (at_first limits Replies) input).has_fault

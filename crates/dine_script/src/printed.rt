@@ -5,31 +5,27 @@ ghost use Rattle.std.specs.Prelude.{◌≡◌, ◌++◌, ◌∷◌, [], IfOk, On
 ghost use Rattle.std.specs.Option.{option_map};
 ghost use mathlib.Core.List.{IsPrefix};
 ghost use Rattle.dine_lines.specs.Faults.{fault_text};
-ghost use Rattle.dine_script.specs.Printed.{call_line, lines_beside, opening_lines};
+ghost use Rattle.dine_script.specs.Script.{call_line, lines_beside, opening_lines};
 ghost use Rattle.dine_lines.specs.Answers.{state_or_none, task_or_none, tasks_or_none};
 ghost use Rattle.dine_words.specs.Texts.{text_of_lines};
 
 use core::mem::replace_with;
 use dine_lines::{LineFault, Print, push_neighbours, push_next};
-use dine_streams::LARGE_WRITE;
 use dine_words::{Call, Entry, Limits, Reply, State, Task};
-use std::alloc::{AllocError, Global};
+use std::alloc::AllocError;
 
 // The pass of a script's calls.
 const PASS: u32 = 0;
 
-/// What stands before the first line, the header of a journal, in a buffer with room for a large write.
-pub fn opening(alloc: Global, limits: Limits, print: Print) -> Result<Vec<u8>, AllocError>
-    ensures { IfOk result (λ opening. opening.items ≡ text_of_lines (opening_lines print limits)) }
+/// Appends what stands before the first line: the header of a journal.
+pub fn push_opening(out: &mut Vec<u8>, limits: Limits, print: Print) -> Result<(), AllocError>
+    ensures { OnOk result (out.new.items
+        ≡ out.old.items ++ text_of_lines (opening_lines print limits)) }
 {
-    let mut opening = Vec::with_capacity(alloc, LARGE_WRITE)?;
     match print {
-        Print::Replies => {}
-        Print::Journal => {
-            limits.write_header_line_to(&mut opening)?;
-        }
+        Print::Replies => Ok(()),
+        Print::Journal => limits.write_header_line_to(out),
     }
-    Ok(opening)
 }
 
 /// The line of a call: its reply, or its entry.

@@ -13,6 +13,8 @@ const MOST_NAMED: usize = 10;
 #[derive(Drop)]
 pub struct FaultRemarks {
     alloc: Global,
+    // How many lines have a fault.
+    faults: usize,
     named: Vec<Remark>,
     is_journal: bool,
     // Memory was wanting for the words.
@@ -24,23 +26,17 @@ impl FaultRemarks {
     pub fn new(alloc: Global) -> FaultRemarks {
         FaultRemarks {
             alloc,
+            faults: 0,
             named: Vec::new(alloc),
             is_journal: false,
             is_speechless: false,
         }
     }
 
-    /// Notes what is wrong with the first line of a text, which was carried out last, where it has a fault.
-    #[inline(always)]
-    pub fn look(&mut self, text: &[u8], fault: bool, session: &Session) {
-        if fault {
-            self.note(text, session);
-        }
-    }
-
-    // Notes what is wrong with the first line of a text.
+    /// Notes what is wrong with the first line of a text, which was carried out last and has a fault.
     #[inline(never)]
-    fn note(&mut self, text: &[u8], session: &Session) {
+    pub fn note(&mut self, text: &[u8], session: &Session) {
+        self.faults = self.faults.saturating_add(1);
         if session.lines() == 1 {
             self.is_journal = text.starts_with(b"dine ");
         }
@@ -67,8 +63,8 @@ impl FaultRemarks {
         Ok(())
     }
 
-    /// Tells what was noted, where so many lines have a fault.
-    pub fn tell<L: Listener>(&self, faults: usize, listener: &mut L) {
+    /// Tells what was noted.
+    pub fn tell<L: Listener>(&self, listener: &mut L) {
         if self.is_journal {
             let remark = b"error: this is a journal, which 'hygienic audit' reads";
             let _ = tell(self.alloc, remark, listener);
@@ -77,8 +73,8 @@ impl FaultRemarks {
         for remark in &self.named {
             listener.tell(remark);
         }
-        if faults > MOST_NAMED && !self.is_speechless {
-            let _ = tell_more(self.alloc, faults - MOST_NAMED, listener);
+        if self.faults > MOST_NAMED && !self.is_speechless {
+            let _ = tell_more(self.alloc, self.faults - MOST_NAMED, listener);
         }
     }
 }

@@ -1,13 +1,13 @@
 //! Where a script stands, and what it answers to one line.
 
-ghost use Rattle.std.specs.Prelude.{◌≡◌, Err, ◌<◌, ◌-◌, ◌^◌, ◌∷◌, ◌++◌, true, false, not, is_some, IfErr, IfOk, OnErr, OnOk, None, Some};
+ghost use Rattle.std.specs.Prelude.{◌≡◌, Err, ◌<◌, ◌∷◌, ◌++◌, length, true, false, not, is_some, IfErr, IfOk, OnErr, OnOk, None, Some};
 ghost use Rattle.dine_script.specs.Commands.{IsFree, ReadsFirst, reading_of, usual_command};
 ghost use Rattle.dine_lines.specs.Usual as usual;
 ghost use Rattle.dine_lines.specs.Names.{is_name, task_named};
 ghost use Rattle.dine_lines.specs.UsualLines.{BeginsOne};
 ghost use Rattle.dine_words.specs.CallWords.{join_word, word_on_one};
-ghost use Rattle.dine_script.specs.Printed.{CanTakeFirst, CarriesOutCommand, TakesSomeOrFails, TakesSomeOrNoMemory, printed_by, printed_of};
-ghost use Rattle.dine_script.specs.Script.{after_command, after_reading, is_fault, names_after_join, opening};
+ghost use Rattle.dine_script.specs.Printed.{CarriesOutCommand, TakesSomeOrFails, TakesSomeOrNoMemory};
+ghost use Rattle.dine_script.specs.Script.{after_command, after_reading, is_fault, names_after_join, opening, printed_by, printed_of};
 ghost use Rattle.dine_words.specs.Texts.{text_of_lines};
 
 use crate::carried::Carried;
@@ -33,8 +33,8 @@ pub type Answered<T> = Result<T, AllocError>;
 /// What is printed of a command was appended, unless memory ran out: then nothing was.
 pub type Printed = Answered<()>;
 
-/// How many of the lines that were carried out have a fault, none or one, and the text after them.
-pub type Taken<'a> = Answered<(usize, &'a [u8])>;
+/// Whether one of the lines that were carried out has a fault, and the text after them.
+pub type Taken<'a> = Answered<(bool, &'a [u8])>;
 
 /// Where a script stands: the arbiter of its calls, and the names that it has bound. It keeps no call.
 #[derive(Drop)]
@@ -73,27 +73,34 @@ impl Session {
         self.lines
     }
 
-    /// Carries out the first line of a text, appends what is printed of it to `out`, and answers how many lines have a
-    /// fault, none or this one, and the text after the line. Where it asks for a state, those that follow it and ask for one
+    /// The limits of its table.
+    pub fn limits(&self) -> Limits
+        ensures { result ≡ self.now.table.limits }
+    {
+        self.arbiter.limits()
+    }
+
+    /// Carries out the first line of a text, appends what is printed of it to `out`, and answers whether it has a
+    /// fault, and the text after the line. Where it asks for a state, those that follow it and ask for one
     /// are carried out with it. On `Err` nothing was appended.
     ///
     /// The steps of meals and the calls about two tasks are compiled into the loop over lines, and take no memory there. So
-    /// are comments, which are passed over. All other lines stand apart from it. The clock is below `u64::MAX`: it counts
-    /// the joins and finishes that were accepted.
+    /// are comments, which are passed over. All other lines stand apart from it. An error is want of
+    /// memory, or that no more joins and finishes can be counted.
     #[inline(always)]
-    pub fn take_first<'a>(&mut self, text: &'a [u8], print: Print, out: &mut Vec<u8>) -> Taken<'a>
-        requires { CanTakeFirst self.old text.now }
-        ensures { TakesSomeOrFails print self.old self.new
+    pub fn take_first<'a>(&mut self, text: &'a [u8], print: &Print, out: &mut Vec<u8>) -> Taken<'a>
+        requires { 0 < length text.now }
+        ensures { TakesSomeOrFails print.now self.old self.new
             text.now out.old.items out.new.items result }
     {
         if let Some(step) = cut_step(text, &self.names) {
             self.make_step(step.call, step.task, print, out)?;
             self.count_line();
-            return Ok((0, step.rest));
+            return Ok((false, step.rest));
         }
         if let Some(rest) = after_comment(text) {
             self.count_line();
-            return Ok((0, rest));
+            return Ok((false, rest));
         }
         self.take_line(text, print, out)
     }
@@ -101,23 +108,23 @@ impl Session {
     /// As [`Session::take_first`], but a step of a meal and a comment aren't looked for first: they are found among all
     /// others.
     #[inline(always)]
-    pub fn take_line<'a>(&mut self, text: &'a [u8], print: Print, out: &mut Vec<u8>) -> Taken<'a>
-        requires { CanTakeFirst self.old text.now }
-        ensures { TakesSomeOrFails print self.old self.new
+    pub fn take_line<'a>(&mut self, text: &'a [u8], print: &Print, out: &mut Vec<u8>) -> Taken<'a>
+        requires { 0 < length text.now }
+        ensures { TakesSomeOrFails print.now self.old self.new
             text.now out.old.items out.new.items result }
     {
         if let Some(pair) = cut_pair(text, &self.names) {
             self.make_pair(pair.call, pair.first, pair.second, print, out)?;
             self.count_line();
-            return Ok((0, pair.rest));
+            return Ok((false, pair.rest));
         }
         let carried = match text {
             [b's', b't', ..] => self.take_states(text, print, out),
             _ => self.take_rarer(text, print, out),
         };
         match carried {
-            Carried::Good(left) => Ok((0, &text[text.len() - left..])),
-            Carried::Faulty(left) => Ok((1, &text[text.len() - left..])),
+            Carried::Good(left) => Ok((false, &text[text.len() - left..])),
+            Carried::Faulty(left) => Ok((true, &text[text.len() - left..])),
             Carried::NoMemory => Err(AllocError),
         }
     }
@@ -133,9 +140,9 @@ impl Session {
     // As `take_first`, for one line that makes a call about two tasks, where hints don't lead to both names. Any other is
     // carried out by `take_any`.
     #[inline(never)]
-    fn take_pair(&mut self, text: &[u8], print: Print, out: &mut Vec<u8>) -> Carried
-        requires { CanTakeFirst self.old text.now }
-        ensures { TakesSomeOrNoMemory print self.old self.new
+    fn take_pair(&mut self, text: &[u8], print: &Print, out: &mut Vec<u8>) -> Carried
+        requires { 0 < length text.now }
+        ensures { TakesSomeOrNoMemory print.now self.old self.new
             text.now out.old.items out.new.items result }
     {
         let Some(pair) = find_pair(text, &self.names) else {
@@ -160,9 +167,9 @@ impl Session {
     // Such questions often come one after the other, and a loop that does nothing else lets the processor look for several
     // names at once.
     #[inline(never)]
-    fn take_states(&mut self, text: &[u8], print: Print, out: &mut Vec<u8>) -> Carried
-        requires { CanTakeFirst self.old text.now }
-        ensures { TakesSomeOrNoMemory print self.old self.new
+    fn take_states(&mut self, text: &[u8], print: &Print, out: &mut Vec<u8>) -> Carried
+        requires { 0 < length text.now }
+        ensures { TakesSomeOrNoMemory print.now self.old self.new
             text.now out.old.items out.new.items result }
     {
         let stop = text.len().saturating_sub(STATES_AT_ONCE);
@@ -186,9 +193,9 @@ impl Session {
 
     // As `take_states`, for one line, to whose name no hint leads. Any other is carried out by `take_any`.
     #[inline(never)]
-    fn take_state(&mut self, text: &[u8], print: Print, out: &mut Vec<u8>) -> Carried
-        requires { CanTakeFirst self.old text.now }
-        ensures { TakesSomeOrNoMemory print self.old self.new
+    fn take_state(&mut self, text: &[u8], print: &Print, out: &mut Vec<u8>) -> Carried
+        requires { 0 < length text.now }
+        ensures { TakesSomeOrNoMemory print.now self.old self.new
             text.now out.old.items out.new.items result }
     {
         let Some((found, rest)) = find_state(text, &self.names) else {
@@ -209,9 +216,9 @@ impl Session {
     // As `take_first`, for one line that joins, makes a call about one task or asks for neighbours. Any other goes to
     // `take_pair` or `take_any`, by its first letter: so does a question for the neighbours of nobody, which has a fault.
     #[inline(never)]
-    fn take_rarer(&mut self, text: &[u8], print: Print, out: &mut Vec<u8>) -> Carried
-        requires { CanTakeFirst self.old text.now }
-        ensures { TakesSomeOrNoMemory print self.old self.new
+    fn take_rarer(&mut self, text: &[u8], print: &Print, out: &mut Vec<u8>) -> Carried
+        requires { 0 < length text.now }
+        ensures { TakesSomeOrNoMemory print.now self.old self.new
             text.now out.old.items out.new.items result }
     {
         if let Some((name, rest)) = cut_join(text) {
@@ -239,13 +246,12 @@ impl Session {
         &mut self,
         asked: FoundCall<'_>,
         text: &[u8],
-        print: Print,
+        print: &Print,
         out: &mut Vec<u8>,
     ) -> Carried
-        requires begins { BeginsOne self.old.names (word_on_one asked.call)
+        requires { BeginsOne self.old.names (word_on_one asked.call)
             asked.task text.now asked.rest.now }
-        requires clock { self.old.table.clock < 2 ^ 64 - 1 }
-        ensures { TakesSomeOrNoMemory print self.old self.new
+        ensures { TakesSomeOrNoMemory print.now self.old self.new
             text.now out.old.items out.new.items result }
     {
         match asked.task {
@@ -267,13 +273,12 @@ impl Session {
         text: &[u8],
         name: Name,
         rest: &[u8],
-        print: Print,
+        print: &Print,
         out: &mut Vec<u8>,
     ) -> Carried
         requires name { is_name name ≡ true }
         requires begins { text.now ≡ join_word ++ 32 ∷ name ++ 10 ∷ rest.now }
-        requires first { CanTakeFirst self.old text.now }
-        ensures { TakesSomeOrNoMemory print self.old self.new
+        ensures { TakesSomeOrNoMemory print.now self.old self.new
             text.now out.old.items out.new.items result }
     {
         match self.join(name, print, out) {
@@ -289,9 +294,9 @@ impl Session {
     // As `take_first`, of any line, by its words. Few lines come here: those with a fault that no usual form shows, `next`,
     // those without a word or with other blanks, and the last ones of a text.
     #[inline(never)]
-    fn take_any(&mut self, text: &[u8], print: Print, out: &mut Vec<u8>) -> Carried
-        requires { CanTakeFirst self.old text.now }
-        ensures { TakesSomeOrNoMemory print self.old self.new
+    fn take_any(&mut self, text: &[u8], print: &Print, out: &mut Vec<u8>) -> Carried
+        requires { 0 < length text.now }
+        ensures { TakesSomeOrNoMemory print.now self.old self.new
             text.now out.old.items out.new.items result }
     {
         if let Some(rest) = after_empty(text) {
@@ -306,9 +311,9 @@ impl Session {
 
     // As `take_any`, of a line in which `short_fault` found no fault: `next`, or one with other blanks.
     #[inline(never)]
-    fn take_spaced(&mut self, text: &[u8], print: Print, out: &mut Vec<u8>) -> Carried
-        requires { CanTakeFirst self.old text.now }
-        ensures { TakesSomeOrNoMemory print self.old self.new
+    fn take_spaced(&mut self, text: &[u8], print: &Print, out: &mut Vec<u8>) -> Carried
+        requires { 0 < length text.now }
+        ensures { TakesSomeOrNoMemory print.now self.old self.new
             text.now out.old.items out.new.items result }
     {
         let Some((reading, rest)) = read_spaced(&self.names, text) else {
@@ -329,23 +334,17 @@ impl Session {
     // As `take_any`, of a line whose words are cut one after the other: one without a word, a comment that isn't known by its
     // first byte, one with a long word, many blanks or another control byte, or one of the last.
     #[inline(never)]
-    fn take_longer(&mut self, text: &[u8], print: Print, out: &mut Vec<u8>) -> Carried
-        requires { CanTakeFirst self.old text.now }
-        ensures { TakesSomeOrNoMemory print self.old self.new
+    fn take_longer(&mut self, text: &[u8], print: &Print, out: &mut Vec<u8>) -> Carried
+        requires { 0 < length text.now }
+        ensures { TakesSomeOrNoMemory print.now self.old self.new
             text.now out.old.items out.new.items result }
     {
         let Some((line, rest)) = next_line(text) else {
             unreachable!()
         };
-        match self.take_other(line, print, out) {
-            Ok(has_fault) => {
-                self.count_line();
-                if has_fault {
-                    Carried::Faulty(rest.len())
-                } else {
-                    Carried::Good(rest.len())
-                }
-            }
+        match self.take_words(line, print, out) {
+            Ok(true) => Carried::Faulty(rest.len()),
+            Ok(false) => Carried::Good(rest.len()),
             Err(_) => Carried::NoMemory,
         }
     }
@@ -357,14 +356,14 @@ impl Session {
         fault: LineFault,
         text: &[u8],
         rest: &[u8],
-        print: Print,
+        print: &Print,
         out: &mut Vec<u8>,
     ) -> Carried
         requires { ReadsFirst self.old.names text.now rest.now (Err fault) }
-        ensures { TakesSomeOrNoMemory print self.old self.new
+        ensures { TakesSomeOrNoMemory print.now self.old self.new
             text.now out.old.items out.new.items result }
     {
-        let Ok(()) = print_fault(fault, print, out) else {
+        let Ok(()) = print_fault(fault, *print, out) else {
             return Carried::NoMemory;
         };
         self.count_line();
@@ -374,9 +373,14 @@ impl Session {
     // Makes a call about one task, and appends its line. Each call is compiled for itself, so that nothing asks again
     // which it is.
     #[inline(always)]
-    fn make_step(&mut self, call: CallOnOne, task: Task, print: Print, out: &mut Vec<u8>) -> Printed
-        requires { self.old.table.clock < 2 ^ 64 - 1 }
-        ensures ok { OnOk result (CarriesOutCommand print self.old self.new
+    fn make_step(
+        &mut self,
+        call: CallOnOne,
+        task: Task,
+        print: &Print,
+        out: &mut Vec<u8>,
+    ) -> Printed
+        ensures ok { OnOk result (CarriesOutCommand print.now self.old self.new
             (usual_command (usual.OnOne call task)) out.old.items out.new.items) }
         ensures err { OnErr result (out.new.items ≡ out.old.items) }
     {
@@ -396,11 +400,10 @@ impl Session {
         call: CallOnTwo,
         first: Task,
         second: Task,
-        print: Print,
+        print: &Print,
         out: &mut Vec<u8>,
     ) -> Printed
-        requires { self.old.table.clock < 2 ^ 64 - 1 }
-        ensures ok { OnOk result (CarriesOutCommand print self.old self.new
+        ensures ok { OnOk result (CarriesOutCommand print.now self.old self.new
             (usual_command (usual.OnTwo call first second)) out.old.items out.new.items) }
         ensures err { OnErr result (out.new.items ≡ out.old.items) }
     {
@@ -410,17 +413,18 @@ impl Session {
         }
     }
 
-    // Carries out a line by its words.
-    fn take_other(&mut self, line: &[u8], print: Print, out: &mut Vec<u8>) -> Answered<bool>
-        requires { self.old.table.clock < 2 ^ 64 - 1 }
+    /// Carries out a line without its line feed, by its words, and answers whether it has a fault. On `Err` nothing was
+    /// appended.
+    pub fn take_words(&mut self, line: &[u8], print: &Print, out: &mut Vec<u8>) -> Answered<bool>
         ensures fault { IfOk result (λ fault.
             fault ≡ is_fault (reading_of self.old.names line.now)) }
         ensures after { OnOk result
             (self.new ≡ after_reading self.old (reading_of self.old.names line.now)) }
         ensures output { OnOk result (out.new.items ≡ out.old.items ++ text_of_lines
-            (printed_of print self.old (reading_of self.old.names line.now))) }
+            (printed_of print.now self.old (reading_of self.old.names line.now))) }
         ensures err { OnErr result (out.new.items ≡ out.old.items) }
     {
+        self.count_line();
         match read_line(&self.names, line) {
             Ok(None) => Ok(false),
             Ok(Some(command)) => {
@@ -428,7 +432,7 @@ impl Session {
                 Ok(false)
             }
             Err(fault) => {
-                print_fault(fault, print, out)?;
+                print_fault(fault, *print, out)?;
                 Ok(true)
             }
         }
@@ -436,21 +440,22 @@ impl Session {
 
     // Makes a call, and appends its line.
     #[inline(always)]
-    fn make_call(&mut self, call: Call, print: Print, out: &mut Vec<u8>) -> Printed
-        requires { self.old.table.clock < 2 ^ 64 - 1 }
-        ensures ok { OnOk result (CarriesOutCommand print self.old self.new (Command.Call call)
+    fn make_call(&mut self, call: Call, print: &Print, out: &mut Vec<u8>) -> Printed
+        ensures ok { OnOk result (CarriesOutCommand print.now self.old self.new (Command.Call call)
             out.old.items out.new.items) }
         ensures err { OnErr result (out.new.items ≡ out.old.items) }
     {
+        if u64::MAX <= self.arbiter.clock() {
+            return Err(AllocError);
+        }
         let reply = self.arbiter.apply(call);
-        print_call(call, reply, print, out)
+        print_call(call, reply, *print, out)
     }
 
     // As `make_call`, compiled once for all calls.
     #[inline(never)]
-    fn make_any_call(&mut self, call: Call, print: Print, out: &mut Vec<u8>) -> Printed
-        requires { self.old.table.clock < 2 ^ 64 - 1 }
-        ensures ok { OnOk result (CarriesOutCommand print self.old self.new (Command.Call call)
+    fn make_any_call(&mut self, call: Call, print: &Print, out: &mut Vec<u8>) -> Printed
+        ensures ok { OnOk result (CarriesOutCommand print.now self.old self.new (Command.Call call)
             out.old.items out.new.items) }
         ensures err { OnErr result (out.new.items ≡ out.old.items) }
     {
@@ -458,10 +463,9 @@ impl Session {
     }
 
     // Carries out a command, and appends its line. A question has none in a journal, and nobody has to answer it then.
-    fn carry_out(&mut self, command: Command, print: Print, out: &mut Vec<u8>) -> Printed
-        requires free { IsFree self.old.names command }
-        requires clock { self.old.table.clock < 2 ^ 64 - 1 }
-        ensures ok { OnOk result (CarriesOutCommand print self.old self.new command
+    fn carry_out(&mut self, command: Command, print: &Print, out: &mut Vec<u8>) -> Printed
+        requires { IsFree self.old.names command }
+        ensures ok { OnOk result (CarriesOutCommand print.now self.old self.new command
             out.old.items out.new.items) }
         ensures err { OnErr result (out.new.items ≡ out.old.items) }
     {
@@ -476,12 +480,12 @@ impl Session {
 
     // Appends the line of a task's state, where what is printed has one.
     #[inline(always)]
-    fn tell_state(&self, task: Task, print: Print, out: &mut Vec<u8>) -> Printed
+    fn tell_state(&self, task: Task, print: &Print, out: &mut Vec<u8>) -> Printed
         ensures ok { OnOk result (out.new.items ≡ out.old.items
-            ++ text_of_lines (printed_by print self.now.table (Command.State task))) }
+            ++ text_of_lines (printed_by print.now self.now.table (Command.State task))) }
         ensures err { OnErr result (out.new.items ≡ out.old.items) }
     {
-        if print == Print::Journal {
+        if *print == Print::Journal {
             return Ok(());
         }
         print_state(self.arbiter.state(task), out)
@@ -489,24 +493,24 @@ impl Session {
 
     // Appends the line of a task's neighbours, where what is printed has one.
     #[inline(never)]
-    fn tell_neighbours(&self, task: Task, print: Print, out: &mut Vec<u8>) -> Printed
+    fn tell_neighbours(&self, task: Task, print: &Print, out: &mut Vec<u8>) -> Printed
         ensures ok { OnOk result (out.new.items ≡ out.old.items
-            ++ text_of_lines (printed_by print self.now.table (Command.Neighbours task))) }
+            ++ text_of_lines (printed_by print.now self.now.table (Command.Neighbours task))) }
         ensures err { OnErr result (out.new.items ≡ out.old.items) }
     {
-        match print {
+        match *print {
             Print::Replies => print_neighbours(self.arbiter.neighbours(self.alloc, task)?, out),
             Print::Journal => Ok(()),
         }
     }
 
     // Appends the line of the next ready task, where what is printed has one.
-    fn tell_next(&self, print: Print, out: &mut Vec<u8>) -> Printed
+    fn tell_next(&self, print: &Print, out: &mut Vec<u8>) -> Printed
         ensures ok { OnOk result (out.new.items ≡ out.old.items
-            ++ text_of_lines (printed_by print self.now.table Command.Next)) }
+            ++ text_of_lines (printed_by print.now self.now.table Command.Next)) }
         ensures err { OnErr result (out.new.items ≡ out.old.items) }
     {
-        match print {
+        match *print {
             Print::Replies => print_next(self.arbiter.next_ready(), out),
             Print::Journal => Ok(()),
         }
@@ -514,33 +518,34 @@ impl Session {
 
     // Lets a task join under the name, if the name is free, and answers whether it was. If it wasn't, nothing is done.
     #[inline(always)]
-    fn join(&mut self, name: Name, print: Print, out: &mut Vec<u8>) -> Answered<bool>
-        requires clock { self.old.table.clock < 2 ^ 64 - 1 }
+    fn join(&mut self, name: Name, print: &Print, out: &mut Vec<u8>) -> Answered<bool>
         ensures free { IfOk result (λ free.
             free ≡ not (is_some (task_named self.old.names name))) }
         ensures after { result ≡ Ok true →
             self.new ≡ after_command self.old (Command.Join name) }
         ensures output { result ≡ Ok true → out.new.items ≡ out.old.items
-            ++ text_of_lines (printed_by print self.old.table (Command.Join name)) }
+            ++ text_of_lines (printed_by print.now self.old.table (Command.Join name)) }
         ensures kept { result ≡ Ok false →
             (self.new ≡ self.old) × (out.new.items ≡ out.old.items) }
         ensures err { OnErr result (out.new.items ≡ out.old.items) }
     {
+        if u64::MAX <= self.arbiter.clock() {
+            return Err(AllocError);
+        }
         let reply = self.arbiter.reply_to(Call::Join);
         if !take_name(&mut self.names, name, reply)? {
             return Ok(false);
         }
         self.arbiter.apply_answered(Call::Join, reply);
-        print_join(reply, print, out)?;
+        print_join(reply, *print, out)?;
         Ok(true)
     }
 
     // A task joins, and takes the name.
     #[inline(never)]
-    fn join_free(&mut self, name: Name, print: Print, out: &mut Vec<u8>) -> Printed
-        requires free { task_named self.old.names name ≡ None }
-        requires clock { self.old.table.clock < 2 ^ 64 - 1 }
-        ensures ok { OnOk result (CarriesOutCommand print self.old self.new (Command.Join name)
+    fn join_free(&mut self, name: Name, print: &Print, out: &mut Vec<u8>) -> Printed
+        requires { task_named self.old.names name ≡ None }
+        ensures ok { OnOk result (CarriesOutCommand print.now self.old self.new (Command.Join name)
             out.old.items out.new.items) }
         ensures err { OnErr result (out.new.items ≡ out.old.items) }
     {

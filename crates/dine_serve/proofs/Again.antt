@@ -1,5 +1,5 @@
 -- A request that was carried out comes again with the answer that it got.
-use Rattle.dine_serve.proofs.Words.{◌≡◌, ℕ, ◌<◌, nat_lt, eqb, true, false, List, [], ◌++◌, codes, length, map, take, slice_get, Some, None, inl, inr, refl, ap, ◌∙◌, subst, arith, cases_Bool, nat_tests, RequestAnswer, Made, Cancelled, Waits, First, Again, Deed, Make, Cancel, has_to_wait, again_lines, entry_in, coming_at, coming_of, Broker, after_coming, after_deed, answer_done, is_full, received, said_done, is_noted}
+use Rattle.dine_serve.proofs.Words.{◌≡◌, ℕ, ◌<◌, nat_lt, eq-eqb, false, List, [], ◌++◌, codes, length, map, take, slice_get, Some, None, inl, inr, refl, ap, ◌∙◌, subst, arith, cases_Bool, nat_tests, RequestAnswer, Made, Cancelled, Waits, First, Again, Deed, Make, Cancel, has_to_wait, again_lines, entry_in, coming_at, coming_of, Broker, after_coming, after_deed, answer_done, is_full, received, said_done, is_noted}
 use Rattle.dine_serve.specs.declared.request.Deed.TheVariants.{Await as await}
 use Rattle.dine_words.specs.declared.call.Call.TheVariants as call
 use Rattle.dine_serve.proofs.Once.{first-some, put-got, same-done}
@@ -11,13 +11,6 @@ not_below n = elim (cases_Bool (nat_lt n n)) [
   | inr e ↦ e
 ]
 
--- each number equals itself
-itself : (n : ℕ) → eqb n n ≡ true
-itself n = elim (cases_Bool (eqb n n)) [
-  | inl e ↦ e
-  | inr e ↦ absurd (grind (arith, nat_tests, e))
-]
-
 -- a request that was carried out comes again with its answer
 pub again-known : (s : Broker) (pass number : ℕ) (deed : Deed) (answer : RequestAnswer) → coming_of s.receipts pass number ≡ First → answer_done s pass deed ≡ Some answer → coming_of (after_coming s pass number deed First).receipts pass number ≡ Again answer
 again-known s pass number deed answer first is =
@@ -26,7 +19,7 @@ again-known s pass number deed answer first is =
     let got = put-got left.receipts pass record { number = number; answer = answer } x (same-done s pass (Some number) deed pass ∙ at) in
     ap (λ o. coming_of (received pass number o left).receipts pass number) is
     ∙ ap (λ o. coming_at o number) got
-    ∙ rw (not_below number, itself number) refl
+    ∙ rw (not_below number, eq-eqb number number refl) refl
 
 -- ---- the line is the same
 

@@ -1,8 +1,2 @@
--- What the proofs of other crates cite of a service: what holds of what it wrote, and the journal that it leaves.
-
--- an output of which nothing is written
-pub use Rattle.dine_serve.proofs.Opening.{nothing-written}
--- what holds of bytes that are known
-pub use Rattle.dine_serve.proofs.Answering.{for_all_known, of_known}
--- the journal of what is served
+-- What the proofs of other crates cite of a service: the journal that it leaves.
 pub use Rattle.dine_serve.proofs.Legal.{entry_lines-all, legal-lines, said_to_input-journal}

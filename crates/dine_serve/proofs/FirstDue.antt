@@ -1,19 +1,10 @@
 -- The begin that is due first: what is known of those in front of it, and how it is found.
 use Rattle.dine_serve.proofs.Words.{◌≡◌, ℕ, eqb, Bool, true, false, List, [], ◌∷◌, ◌++◌, drop, Option, Some, None, IfSome, is_some, inl, inr, refl, sym, ap, ◌∙◌, subst, arith, eq-eqb, cases_Bool, eqb-true, nat_tests, filter-append, AllByRecursion, filter, Call, Diner, Task, Table, stands_before, state_in, state_of, has_to_wait, same_slot, same_task-true, Await, AllWaitBut, AreQueued, AreSeated, Changes, IsDueAt, IsRetried, Leads, LeadsAt, LeadsOn, Waiters, first_due, first_of, in_order, may_have_ended, queue_at, waits_at, AllWait, InOrder, NoneBefore}
 use Rattle.std.specs.List.{IsDistinct}
+use Rattle.dine_serve.proofs.Each.{each-append, each-both, each-on}
 use Rattle.dine_serve.proofs.Queueing.{before-itself, one_task}
 
 -- ---- lists
-
--- what holds of two parts holds of both
-pub all-append : (P : Await → Type 0) (xs ys : List Await) → AllByRecursion P (xs ++ ys) → AllByRecursion P xs × AllByRecursion P ys
-all-append P [] ys all = (tt, all)
-all-append P (x ∷ xs) ys all = let rest = all-append P xs ys all.1 in ((all.0, rest.0), rest.1)
-
--- and the other way round
-pub all-both : (P : Await → Type 0) (xs ys : List Await) → AllByRecursion P xs → AllByRecursion P ys → AllByRecursion P (xs ++ ys)
-all-both P [] ys left right = right
-all-both P (x ∷ xs) ys left right = (left.0, all-both P xs ys left.1 right)
 
 -- what holds of all holds of the first that passes a test, which passes it
 pub first-passes : (P : Await → Type 0) (p : Await → Bool) (xs : List Await) (b : Await) → AllByRecursion P xs → first_of (filter p xs) ≡ Some b → P b × (p b ≡ true)
@@ -25,11 +16,6 @@ first-passes P p (x ∷ xs) b all h = elim (cases_Bool (p x)) [
   where
     inner : (y z : Await) → Some y ≡ Some z → y ≡ z
     inner y z k = cc
-
--- none of those stands before the task
-pub none-all : (order : List Diner) (u : Task) (xs : List Await) → NoneBefore order u xs → AllByRecursion (λ a. stands_before order a.task u ≡ false) xs
-none-all order u [] none = tt
-none-all order u (x ∷ xs) none = (none.0, none-all order u xs none.1)
 
 -- ---- what is due first
 
@@ -142,12 +128,8 @@ module _ (t : Table) (w : Waiters) (c : Call) (r : IsRetried t c w) where
   found-none : (found : Option Await) → first_due t all ≡ None → IfSome found (IsDueAt t w.rows) → found ≡ None
   found-none None none due = refl
   found-none (Some b) none due =
-      let waits = (first-all (λ a. has_to_wait t a.task ≡ true) due.slot b (waits-each all (none-due t all none)) due.first).0 in
+      let waits = (first-all (λ a. has_to_wait t a.task ≡ true) due.slot b (none-due t all none) due.first).0 in
       absurd (let two : true ≡ false = sym waits ∙ due.due in cc)
-    where
-      waits-each : (xs : List Await) → AllWait t xs → AllByRecursion (λ a. has_to_wait t a.task ≡ true) xs
-      waits-each [] wait = tt
-      waits-each (x ∷ xs) wait = (wait.0, waits-each xs wait.1)
 
   module _ (a : Await) (first : first_due t all ≡ Some a) where
     abbrev s : Splits t all a
@@ -157,10 +139,10 @@ module _ (t : Table) (w : Waiters) (c : Call) (r : IsRetried t c w) where
     seated = subst (AreSeated t.order) s.all r.held.seated
 
     here : is_some (state_of t a.task) ≡ true
-    here = (all-append (λ x. is_some (state_in t.order x.task) ≡ true) s.front (a ∷ s.back) seated).1.0
+    here = (each-append (λ x. is_some (state_in t.order x.task) ≡ true) s.front (a ∷ s.back) seated).1.0
 
     front-seated : AreSeated t.order s.front
-    front-seated = (all-append (λ x. is_some (state_in t.order x.task) ≡ true) s.front (a ∷ s.back) seated).0
+    front-seated = (each-append (λ x. is_some (state_in t.order x.task) ≡ true) s.front (a ∷ s.back) seated).0
 
     -- it came first at its slot
     pub first-there : first_of (queue_at w.rows a.task.slot) ≡ Some a
@@ -172,15 +154,10 @@ module _ (t : Table) (w : Waiters) (c : Call) (r : IsRetried t c w) where
 
     -- none that is due does
     not-before : AllByRecursion NotBefore all
-    not-before = subst (AllByRecursion NotBefore) (sym s.all) (all-both NotBefore s.front (a ∷ s.back) (in-front s.front s.wait) ((λ due. before-itself t.order a.task), in-back s.back (behind-order t.order s.front a s.back (subst (InOrder t.order) s.all r.ordered))))
-      where
-        in-front : (xs : List Await) → AllWait t xs → AllByRecursion NotBefore xs
-        in-front [] wait = tt
-        in-front (x ∷ xs) wait = (λ due. absurd (let two : true ≡ false = sym wait.0 ∙ due in cc), in-front xs wait.1)
-
-        in-back : (xs : List Await) → NoneBefore t.order a.task xs → AllByRecursion NotBefore xs
-        in-back [] none = tt
-        in-back (x ∷ xs) none = (λ due. none.0, in-back xs none.1)
+    not-before =
+        subst (AllByRecursion NotBefore) (sym s.all) (each-both NotBefore s.front (a ∷ s.back)
+        (each-on (λ x. has_to_wait t x.task ≡ true) NotBefore (λ x waits due. absurd (let two : true ≡ false = sym waits ∙ due in cc)) s.front s.wait)
+        ((λ due. before-itself t.order a.task), each-on (λ x. stands_before t.order x.task a.task ≡ false) NotBefore (λ x off due. off) s.back (behind-order t.order s.front a s.back (subst (InOrder t.order) s.all r.ordered))))
 
     -- its wait may have ended
     may-end : may_have_ended t c a.task ≡ true
@@ -188,7 +165,7 @@ module _ (t : Table) (w : Waiters) (c : Call) (r : IsRetried t c w) where
       | inl e ↦ e
       | inr e ↦
           let each = subst (AllWaitBut t c) s.all r.waits in
-          let waits = (all-append (λ x. may_have_ended t c x.task ≡ false → has_to_wait t x.task ≡ true) s.front (a ∷ s.back) each).1.0 e in
+          let waits = (each-append (λ x. may_have_ended t c x.task ≡ false → has_to_wait t x.task ≡ true) s.front (a ∷ s.back) each).1.0 e in
           absurd (let two : true ≡ false = sym waits ∙ s.due in cc)
     ]
 

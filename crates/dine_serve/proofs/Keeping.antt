@@ -1,12 +1,11 @@
 -- What a broker keeps of those who wait: at the opening, where one is noted or taken back, and after a call.
-use Rattle.dine_serve.proofs.Words.{◌≡◌, ◌⊎◌, ℕ, suc, ◌+◌, ◌-◌, Bool, true, false, if◌then◌else◌, List, [], ◌∷◌, ◌++◌, length, map, Option, inl, inr, refl, sym, ap, ◌∙◌, subst, arith, Call, Reply, Joined, Done, Refused, Task, entry_text, text_of_lines, may_end_waits, Table, has_to_wait, reply_of, table_after_call, IsSound, Await, Receipt, AreQueued, AreSeated, Changes, IsKept, SameQueues, Waiters, in_order, queue_at, Broker, after_begins, after_making, retries_after, AllWait, InOrder, begun_after, begun_from, is_noted, noted, receipts_begun, retries_waits, still_waiting, table_begun, taken_back}
-use Rattle.dine_words.specs.declared.call.Call.TheVariants as call
+use Rattle.dine_serve.proofs.Words.{◌≡◌, ◌⊎◌, ℕ, suc, ◌+◌, ◌-◌, Bool, true, false, if◌then◌else◌, List, [], ◌∷◌, ◌++◌, length, Option, is_some, inl, inr, refl, sym, ap, ◌∙◌, subst, arith, Call, Task, may_end_waits, Table, has_to_wait, reply_of, table_after_call, IsSound, Await, Receipt, AreQueued, AreSeated, Changes, IsKept, SameQueues, Waiters, in_order, queue_at, state_in, Broker, after_making, AllWait, InOrder, is_noted, noted, receipts_begun, still_waiting, table_begun, taken_back}
 use Rattle.dine_serve.proofs.Gathered.{told}
 use Rattle.dine_serve.proofs.Ordered.{in_order-noted, in_order-taken_back}
-use Rattle.dine_serve.proofs.Queueing.{back-length, back-none, back-queued, back-seated, noted-at, noted-length, noted-queued, noted-seated}
+use Rattle.dine_serve.proofs.Queueing.{back-length, back-none, back-queued, noted-at, noted-length, noted-queued}
 use Rattle.dine_serve.proofs.Retrying.{seated-waits}
 use Rattle.dine_serve.proofs.Staying.{may_end-waits}
-use Rattle.dine_serve.proofs.Waiting.{all-noted-wait, all-others-wait, all-wait-on}
+use Rattle.dine_serve.proofs.Each.{each-back, each-noted, each-on}
 
 -- those who wait stand so, and are kept
 pub record Keeps (t : Table) (w : Waiters) (xs : List Await) : Type 0 where
@@ -45,20 +44,20 @@ module _ (t : Table) (w w' : Waiters) (k : IsKept t w) where
   keeps-noted a waits changes len =
       let here = seated-waits t a.task waits in
       keeps t w' (noted t.order a all) k.sound
-      (noted-seated t.order k.sound.each_slot_once a here all k.held.seated)
+      (each-noted (λ x. is_some (state_in t.order x.task) ≡ true) t.order a all here k.held.seated)
       (in_order-noted t.order a all k.ordered)
       (noted-queued t.order k.sound.each_slot_once a here w.rows w'.rows all k.held.seated k.ordered k.held.queued changes)
-      (all-noted-wait t t.order a all waits k.all_wait)
+      (each-noted (λ x. has_to_wait t x.task ≡ true) t.order a all waits k.all_wait)
       (len ∙ ap (λ n. n + 1) k.counted ∙ sym (noted-length t.order a all))
 
   -- one is taken back, or none
   pub keeps-back : (pass : ℕ) (u : Task) (found : Bool) → found ≡ is_noted pass u (queue_at w.rows u.slot) → Changes w.rows w'.rows u.slot (taken_back pass u (queue_at w.rows u.slot)) → w'.len ≡ (if found then w.len - 1 else w.len) → Keeps t w' (taken_back pass u all)
   keeps-back pass u found told changes len =
       keeps t w' (taken_back pass u all) k.sound
-      (back-seated pass u t.order all k.held.seated)
+      (each-back (λ x. is_some (state_in t.order x.task) ≡ true) pass u all k.held.seated)
       (in_order-taken_back t.order pass u all k.ordered)
       (back-queued pass u w.rows w'.rows all k.held.queued changes)
-      (all-others-wait t pass u all k.all_wait)
+      (each-back (λ x. has_to_wait t x.task ≡ true) pass u all k.all_wait)
       (by found (found-all pass u found told) len)
     where
       found-all : (pass : ℕ) (u : Task) (found : Bool) → found ≡ is_noted pass u (queue_at w.rows u.slot) → is_noted pass u all ≡ found
@@ -88,37 +87,8 @@ called-rests t c w k (inl none) = nobody (in_order t.order w.rows) (sym k.counte
     nobody : (xs : List Await) → length xs ≡ 0 → AllWait (table_after_call t c) xs
     nobody [] h = tt
     nobody (x ∷ xs) h = absurd (omega (arith, h))
-called-rests t c w k (inr none) = all-wait-on t (table_after_call t c) (in_order t.order w.rows) (may_end-waits t c none) k.all_wait
+called-rests t c w k (inr none) = each-on (λ x. has_to_wait t x.task ≡ true) (λ x. has_to_wait (table_after_call t c) x.task ≡ true) (λ x waits. may_end-waits t c none x.task waits) (in_order t.order w.rows) k.all_wait
 
--- a call that may have ended waits is one after which begins are tried again
-pub ends-retries : (c : Call) (reply : Reply) → may_end_waits c reply ≡ true → retries_waits c reply ≡ true
-ends-retries call.Join reply h = absurd (let two : false ≡ true = h in cc)
-ends-retries (call.Leave u) reply h = absurd (let two : false ≡ true = h in cc)
-ends-retries (call.Conflict u v) reply h = absurd (let two : false ≡ true = h in cc)
-ends-retries (call.Hungry u) reply h = absurd (let two : false ≡ true = h in cc)
-ends-retries (call.Begin u) reply h = absurd (let two : false ≡ true = h in cc)
-ends-retries (call.Separate u v) Done h = refl
-ends-retries (call.Separate u v) (Joined x) h = absurd (let two : false ≡ true = h in cc)
-ends-retries (call.Separate u v) (Refused x) h = absurd (let two : false ≡ true = h in cc)
-ends-retries (call.Finish u) Done h = refl
-ends-retries (call.Finish u) (Joined x) h = absurd (let two : false ≡ true = h in cc)
-ends-retries (call.Finish u) (Refused x) h = absurd (let two : false ≡ true = h in cc)
-ends-retries (call.Withdraw u) Done h = refl
-ends-retries (call.Withdraw u) (Joined x) h = absurd (let two : false ≡ true = h in cc)
-ends-retries (call.Withdraw u) (Refused x) h = absurd (let two : false ≡ true = h in cc)
-
-module _ (s : Broker) (c : Call) (ends : retries_after s c ≡ true) where
-  abbrev after : Table
-  after = table_after_call s.table c
-
-  -- where all were tried, the broker stands as it is to stand
-  pub made-all : (t' : Table) (awaits' : List Await) (receipts' : List (Option Receipt)) → t' ≡ table_begun after s.awaits → awaits' ≡ still_waiting after s.awaits → receipts' ≡ receipts_begun after s.awaits s.receipts → record s { table = t'; awaits = awaits'; receipts = receipts' } ≡ after_making s c
-  made-all t' awaits' receipts' table left kept =
-      ap (λ x. record s { table = x; awaits = awaits'; receipts = receipts' }) table
-      ∙ ap (λ x. record s { table = table_begun after s.awaits; awaits = x; receipts = receipts' }) left
-      ∙ ap (λ x. record s { table = table_begun after s.awaits; awaits = still_waiting after s.awaits; receipts = x }) kept
-      ∙ ap (λ b. after_begins b (record s { table = after })) (sym ends)
-
-  -- and their lines stand behind the call's
-  pub said-all : (mid later : List ℕ) → later ≡ mid ++ text_of_lines (map entry_text (begun_from after s.awaits)) → later ≡ mid ++ text_of_lines (map entry_text (begun_after (retries_after s c) after s.awaits))
-  said-all mid later said = said ∙ ap (λ b. mid ++ text_of_lines (map entry_text (begun_after b after s.awaits))) (sym ends)
+-- where all were tried, the broker stands as it is to stand
+pub made-all : (s : Broker) (c : Call) (t' : Table) (awaits' : List Await) (receipts' : List (Option Receipt)) → t' ≡ table_begun (table_after_call s.table c) s.awaits → awaits' ≡ still_waiting (table_after_call s.table c) s.awaits → receipts' ≡ receipts_begun (table_after_call s.table c) s.awaits s.receipts → record s { table = t'; awaits = awaits'; receipts = receipts' } ≡ after_making s c
+made-all s c t' awaits' receipts' table left kept = rw (table, left, kept) refl

@@ -1,5 +1,5 @@
 -- What is served, without the lines beside it, is the text of a legal journal.
-use Rattle.dine_serve.proofs.Words.{◌≡◌, ℕ, ◌≤◌, Bool, true, false, List, [], ◌∷◌, ◌++◌, codes, decimal, map, Option, Some, None, Result, Ok, Err, inl, inr, refl, sym, ap, ◌∙◌, subst, append_assoc, append-nil, arith, cases_Bool, map-append, filter-append, filter, Call, Entry, Limits, IsLegalFrom, Table, has_to_wait, table_after_call, call_text, entry_text, header_text, reply_text, text_of_lines, written_version, entry_lines, header_line, journal_text, begun_line, seen_lines, LineFault, Request, Ask, Order, Numbered, RequestAnswer, Made, Cancelled, Waits, Coming, First, Again, Stale, Foreign, Deed, Make, Cancel, coming_of, Await, begun_after, begun_from, table_after_begins, table_begun, is_of_journal, reading_of, Broker, after_coming, after_deed, after_making, after_reading, answer_done, counted, retries_after, entries_by, entries_coming, entries_done, entries_from, entries_made, history_of, is_full, opening, received, said_coming, said_done, said_from, said_of_begun, said_to, said_to_input, served_lines, standing_from, zero, suc, not, ◌==◌, ◌||◌, ◌<◌, ◌+◌, ◌/◌, ◌%◌, nat_lt, nat_tests}
+use Rattle.dine_serve.proofs.Words.{◌≡◌, ℕ, ◌≤◌, true, false, List, [], ◌∷◌, ◌++◌, codes, decimal, map, Option, Some, None, Result, Ok, Err, inl, inr, refl, sym, ap, ◌∙◌, subst, append_assoc, append-nil, arith, cases_Bool, map-append, filter-append, filter, Call, Entry, Limits, IsLegalFrom, Table, has_to_wait, table_after_call, call_text, entry_text, header_text, reply_text, text_of_lines, written_version, entry_lines, header_line, journal_text, begun_line, kept_of, seen_lines, LineFault, Request, Ask, Order, Numbered, RequestAnswer, Made, Cancelled, Waits, Coming, First, Again, Stale, Foreign, Deed, Make, Cancel, coming_of, Await, begun_from, table_begun, is_of_journal, reading_of, Broker, after_coming, after_deed, after_making, after_reading, answer_done, counted, entries_by, entries_coming, entries_done, entries_from, entries_made, history_of, is_full, opening, received, said_coming, said_done, said_from, said_of_begun, said_to, said_to_input, served_lines, standing_from, zero, suc, not, ◌==◌, ◌||◌, ◌<◌, ◌+◌, ◌/◌, ◌%◌, nat_lt, nat_tests}
 use Rattle.dine_words.specs.declared.call.Call.TheVariants as call
 use Rattle.dine_serve.specs.declared.request.Deed.TheVariants.{Await as await}
 use Rattle.std.specs.Fmt.{digit_glyph, digits, digits_onto}
@@ -88,9 +88,9 @@ begun-journal s (byte ∷ bytes) = refl
 pub said_to_input-journal : (s : Broker) (input : List ℕ) → filter is_of_journal (said_to_input s input) ≡ map entry_text (entries_from s (seen_lines [] input))
 said_to_input-journal s input =
     let lines = seen_lines [] input in
-    let end = said_of_begun (standing_from s lines) (begun_line [] input) in
+    let end = said_of_begun (standing_from s lines) (kept_of (begun_line [] input)) in
     filter-append is_of_journal (said_from s lines) end
-    ∙ ap (λ l. filter is_of_journal (said_from s lines) ++ l) (begun-journal (standing_from s lines) (begun_line [] input))
+    ∙ ap (λ l. filter is_of_journal (said_from s lines) ++ l) (begun-journal (standing_from s lines) (kept_of (begun_line [] input)))
     ∙ append-nil (filter is_of_journal (said_from s lines))
     ∙ said_from-journal s lines
 
@@ -119,14 +119,9 @@ legal-begun t (a ∷ others) entries legal = elim (cases_Bool (has_to_wait t a.t
   | inr e ↦ rw e (refl, legal-begun (table_after_call t (call.Begin a.task)) others entries (rw e at legal))
 ]
 
--- the begins that waited and are made are legal in front of a legal history
-legal-begun_after : (ends : Bool) (t : Table) (others : List Await) (entries : List Entry) → IsLegalFrom (table_after_begins ends t others) entries → IsLegalFrom t (begun_after ends t others ++ entries)
-legal-begun_after true t others entries legal = legal-begun t others entries legal
-legal-begun_after false t others entries legal = legal
-
 -- so is a call with the begins that it lets go on
 legal-made : (s : Broker) (pass : ℕ) (c : Call) (entries : List Entry) → IsLegalFrom (after_making s c).table entries → IsLegalFrom s.table (entries_made s pass c ++ entries)
-legal-made s pass c entries legal = (refl, legal-begun_after (retries_after s c) (table_after_call s.table c) s.awaits entries legal)
+legal-made s pass c entries legal = (refl, legal-begun (table_after_call s.table c) s.awaits entries legal)
 
 -- so are the calls of a request
 legal-done : (s : Broker) (pass : ℕ) (number : Option ℕ) (deed : Deed) (entries : List Entry) → IsLegalFrom (after_deed s pass number deed).table entries → IsLegalFrom s.table (entries_done s pass deed ++ entries)

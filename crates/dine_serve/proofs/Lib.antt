@@ -1,12 +1,10 @@
 pub mod Words
 pub mod Answering
-pub mod Hearing
-pub mod Opening
-pub mod Served
 pub mod Legal
 pub mod Repeating
 pub mod Once
 pub mod Again
+pub mod Each
 pub mod Waiting
 pub mod Ordered
 pub mod ComingAndGoing

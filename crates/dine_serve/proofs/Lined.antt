@@ -1,5 +1,5 @@
 -- Each call that was made where memory was wanting has its line.
-use Rattle.dine_serve.proofs.Words.{◌≡◌, ℕ, Bool, true, false, List, [], Option, Some, None, Result, Ok, Err, refl, sym, ap, ◌∙◌, subst, append-nil, IsPrefix, Entry, Table, has_to_wait, Coming, First, Again, Stale, Foreign, Deed, Make, Cancel, Request, Ask, Order, Numbered, LineFault, HaveTheirLines, IsPartlySaid, IsUndone, StopsAtAwait, StopsAtComing, StopsAtDeed, StopsAtReading, coming_of, Broker, entries_by, entries_coming, entries_done, is_full}
+use Rattle.dine_serve.proofs.Words.{◌≡◌, ℕ, Bool, true, false, List, [], ◌++◌, map, Option, Some, None, Result, Ok, Err, refl, sym, ap, ◌∙◌, subst, append_assoc, append-nil, IsPrefix, entry_text, text_of_lines, Entry, Table, has_to_wait, Coming, First, Again, Stale, Foreign, Deed, Make, Cancel, Request, Ask, Order, Numbered, LineFault, HaveTheirLines, IsPartlySaid, IsUndone, StopsAtAwait, StopsAtComing, StopsAtDeed, StopsAtReading, coming_of, Broker, entries_by, entries_coming, entries_done, is_full}
 use Rattle.dine_serve.specs.declared.request.Deed.TheVariants.{Await as await}
 
 -- where the table is as it was, no call was made
@@ -47,3 +47,10 @@ reading_lines s s' (Ok (Some (Ask question))) before after h = partly s _ s' [] 
 reading_lines s s' (Ok (Some (Order pass deed))) before after h = deed_lines s s' pass deed before after h
 reading_lines s s' (Ok (Some (Numbered pass number deed))) before after h = coming_lines (coming_of s.receipts pass number) s s' pass deed before after h
 reading_lines s s' (Err found) before after h = partly s _ s' [] before after refl h
+
+-- so what stood before still stands
+pub reading_begins : (s s' : Broker) (reading : Result (Option Request) LineFault) (before after : List ℕ) → StopsAtReading s s' reading before after → IsPrefix before after
+reading_begins s s' reading before after h =
+    let said = reading_lines s s' reading before after h in
+    let made : List ℕ = text_of_lines (map entry_text said.made) in
+    (made ++ said.lines.0, sym (append_assoc before made said.lines.0) ∙ said.lines.1)

@@ -1,5 +1,5 @@
 -- No number of a pass is carried out twice: once it was, its pass's last request has a number that isn't below it.
-use Rattle.dine_serve.proofs.Words.{◌≡◌, ℕ, zero, suc, ◌<◌, ◌≤◌, nat_lt, eqb, Bool, true, false, ◌&&◌, List, [], ◌∷◌, slice_get, slice_set, Option, Some, None, is_some, Result, Ok, Err, inl, inr, refl, sym, ap, ◌∙◌, subst, arith, and_parts, cases_Bool, eqb-true, nat_tests, slice_get-set_other, Call, Entry, has_to_wait, table_after_call, Table, Await, LineFault, RequestAnswer, Made, Coming, First, Again, Stale, Foreign, Receipt, Deed, Make, Cancel, Request, Ask, Order, Numbered, entry_in, coming_at, coming_of, has_number, settled, settled_by, is_carried_out, is_first, times_carried_out, reading_of, Broker, after_coming, after_deed, after_making, after_reading, answer_done, counted, retries_after, is_full, received, receipts_after, receipts_begun}
+use Rattle.dine_serve.proofs.Words.{◌≡◌, ℕ, zero, suc, ◌<◌, ◌≤◌, nat_lt, eqb, true, false, ◌&&◌, List, [], ◌∷◌, slice_get, slice_set, Option, Some, None, is_some, Result, Ok, Err, inl, inr, refl, sym, ap, ◌∙◌, subst, arith, and_parts, cases_Bool, eqb-true, nat_tests, slice_get-set_other, Call, Entry, has_to_wait, table_after_call, Table, Await, LineFault, RequestAnswer, Made, Coming, First, Again, Stale, Foreign, Receipt, Deed, Make, Cancel, Request, Ask, Order, Numbered, entry_in, coming_at, coming_of, has_number, settled, settled_by, is_carried_out, is_first, times_carried_out, reading_of, Broker, after_coming, after_deed, after_making, after_reading, answer_done, counted, is_full, received, receipts_begun}
 use Rattle.dine_words.specs.declared.call.Call.TheVariants as call
 use Rattle.dine_serve.specs.declared.request.Deed.TheVariants.{Await as await}
 
@@ -91,14 +91,9 @@ same-begun t (a ∷ others) receipts pass = elim (cases_Bool (has_to_wait t a.ta
       rw e (same-begun (table_after_call t (call.Begin a.task)) others (settled receipts a entry) pass ∙ same-settled receipts a entry pass)
 ]
 
--- nor do those that begin after a call
-same-after : (ends : Bool) (t : Table) (others : List Await) (receipts : List (Option Receipt)) → Same receipts (receipts_after ends t others receipts)
-same-after true t others receipts pass = same-begun t others receipts pass
-same-after false t others receipts pass = refl
-
 -- nor does a call
 same-made : (s : Broker) (c : Call) → Same s.receipts (after_making s c).receipts
-same-made s c pass = same-after (retries_after s c) (table_after_call s.table c) s.awaits s.receipts pass
+same-made s c pass = same-begun (table_after_call s.table c) s.awaits s.receipts pass
 
 -- nor does a request, before its receipt is put
 pub same-done : (s : Broker) (p : ℕ) (number : Option ℕ) (deed : Deed) → Same s.receipts (after_deed s p number deed).receipts

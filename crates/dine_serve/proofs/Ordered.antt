@@ -1,8 +1,9 @@
 -- Those who wait stand in the order of last meals.
-use Rattle.dine_serve.proofs.Words.{◌≡◌, ℕ, eqb, Bool, true, false, List, [], ◌∷◌, Option, Some, None, is_none, inl, inr, Result, Ok, Err, refl, sym, ap, ◌∙◌, cases_Bool, Call, Diner, State, Thinking, Hungry, Eating, Task, Table, same_task, stands_before, state_in, state_of, changed_by, has_to_wait, newcomer, refusal_of, table_after_call, without, absent_differs, found, free_slot-unused, is_used, same_task-true, stands_before-append, stands_before-with_state, stands_before-without, Await, LineFault, RequestAnswer, Coming, First, Again, Stale, Foreign, Deed, Make, Cancel, Request, Ask, Order, Numbered, coming_of, reading_of, Broker, after_coming, after_deed, after_making, after_reading, answer_done, counted, retries_after, is_full, received, standing_from, AllWait, InOrder, NoneBefore, is_await_of, noted, still_waiting, table_after_begins, table_begun, taken_back, waiting_after}
+use Rattle.dine_serve.proofs.Words.{◌≡◌, ℕ, eqb, true, false, List, [], ◌∷◌, Option, Some, None, is_none, inl, inr, Result, Ok, Err, refl, sym, ap, ◌∙◌, cases_Bool, Call, Diner, State, Thinking, Hungry, Eating, Task, Table, same_task, stands_before, state_in, state_of, changed_by, has_to_wait, newcomer, refusal_of, table_after_call, without, absent_differs, found, free_slot-unused, is_used, same_task-true, stands_before-append, stands_before-with_state, stands_before-without, Await, LineFault, RequestAnswer, Coming, First, Again, Stale, Foreign, Deed, Make, Cancel, Request, Ask, Order, Numbered, coming_of, reading_of, Broker, after_coming, after_deed, after_making, after_reading, answer_done, counted, is_full, received, standing_from, AllWait, InOrder, is_await_of, noted, still_waiting, table_begun, taken_back}
 use Rattle.dine_words.specs.declared.call.Call.TheVariants as call
 use Rattle.dine_serve.specs.declared.request.Deed.TheVariants.{Await as await}
-use Rattle.dine_serve.proofs.Waiting.{all-left-wait, all-noted-wait, all-others-wait, all-wait-on, is_none-None, not-ended, who_waits-hungry}
+use Rattle.dine_serve.proofs.Each.{each-and, each-back, each-noted, each-on, each-still}
+use Rattle.dine_serve.proofs.Waiting.{all-left-wait, is_none-None, who_waits-hungry}
 
 -- ---- the order of last meals is one
 
@@ -40,33 +41,12 @@ before-neither order x a b earlier off = elim (cases_Bool (stands_before order x
 
 -- ---- noting and taking back
 
--- where nobody who waits stands before the second of two, nobody stands before the first
-none-earlier : (order : List Diner) (a b : Task) (others : List Await) → stands_before order a b ≡ true → NoneBefore order b others → NoneBefore order a others
-none-earlier order a b [] earlier none = tt
-none-earlier order a b (c ∷ others) earlier none = (before-neither order c.task a b earlier none.0, none-earlier order a b others earlier none.1)
-
--- one more who waits doesn't stand before the task, if its own doesn't
-none-noted : (order : List Diner) (u : Task) (a : Await) (others : List Await) → stands_before order a.task u ≡ false → NoneBefore order u others → NoneBefore order u (noted order a others)
-none-noted order u a [] first none = (first, tt)
-none-noted order u a (b ∷ others) first none = elim (cases_Bool (stands_before order a.task b.task)) [
-  | inl e ↦ rw e (first, none)
-  | inr e ↦ rw e (none.0, none-noted order u a others first none.1)
-]
-
 -- those who wait stand in order where one more is noted
 pub in_order-noted : (order : List Diner) (a : Await) (others : List Await) → InOrder order others → InOrder order (noted order a others)
 in_order-noted order a [] all = (tt, tt)
 in_order-noted order a (b ∷ others) all = elim (cases_Bool (stands_before order a.task b.task)) [
-  | inl e ↦ rw e ((before-one_way order a.task b.task e, none-earlier order a.task b.task others e all.0), all)
-  | inr e ↦ rw e (none-noted order b.task a others e all.0, in_order-noted order a others all.1)
-]
-
--- nobody stands before the task where one is taken back
-none-taken_back : (order : List Diner) (u : Task) (pass : ℕ) (v : Task) (others : List Await) → NoneBefore order u others → NoneBefore order u (taken_back pass v others)
-none-taken_back order u pass v [] none = tt
-none-taken_back order u pass v (a ∷ others) none = elim (cases_Bool (is_await_of pass v a)) [
-  | inl e ↦ rw e none.1
-  | inr e ↦ rw e (none.0, none-taken_back order u pass v others none.1)
+  | inl e ↦ rw e ((before-one_way order a.task b.task e, each-on (λ x. stands_before order x.task b.task ≡ false) (λ x. stands_before order x.task a.task ≡ false) (λ x none. before-neither order x.task a.task b.task e none) others all.0), all)
+  | inr e ↦ rw e (each-noted (λ x. stands_before order x.task b.task ≡ false) order a others e all.0, in_order-noted order a others all.1)
 ]
 
 -- those who wait stand in order where one is taken back
@@ -74,24 +54,16 @@ pub in_order-taken_back : (order : List Diner) (pass : ℕ) (v : Task) (others :
 in_order-taken_back order pass v [] all = tt
 in_order-taken_back order pass v (a ∷ others) all = elim (cases_Bool (is_await_of pass v a)) [
   | inl e ↦ rw e all.1
-  | inr e ↦ rw e (none-taken_back order a.task pass v others all.0, in_order-taken_back order pass v others all.1)
+  | inr e ↦ rw e (each-back (λ x. stands_before order x.task a.task ≡ false) pass v others all.0, in_order-taken_back order pass v others all.1)
 ]
 
 -- ---- those that wait on
-
--- nobody stands before the task where some begin
-none-still : (order : List Diner) (u : Task) (t : Table) (others : List Await) → NoneBefore order u others → NoneBefore order u (still_waiting t others)
-none-still order u t [] none = tt
-none-still order u t (a ∷ others) none = elim (cases_Bool (has_to_wait t a.task)) [
-  | inl e ↦ rw e (none.0, none-still order u t others none.1)
-  | inr e ↦ rw e (none-still order u (table_after_call t (call.Begin a.task)) others none.1)
-]
 
 -- those who wait stand in order where some begin
 in_order-still : (order : List Diner) (t : Table) (others : List Await) → InOrder order others → InOrder order (still_waiting t others)
 in_order-still order t [] all = tt
 in_order-still order t (a ∷ others) all = elim (cases_Bool (has_to_wait t a.task)) [
-  | inl e ↦ rw e (none-still order a.task t others all.0, in_order-still order t others all.1)
+  | inl e ↦ rw e (each-still (λ x. stands_before order x.task a.task ≡ false) t others all.0, in_order-still order t others all.1)
   | inr e ↦ rw e (in_order-still order (table_after_call t (call.Begin a.task)) others all.1)
 ]
 
@@ -111,13 +83,9 @@ begun-order t (c ∷ others) a b = elim (cases_Bool (has_to_wait t c.task)) [
 ]
 
 module _ (order order' : List Diner) (same : (a b : Task) → stands_before order' a b ≡ stands_before order a b) where
-  none-same : (u : Task) (others : List Await) → NoneBefore order u others → NoneBefore order' u others
-  none-same u [] none = tt
-  none-same u (a ∷ others) none = (same a.task u ∙ none.0, none-same u others none.1)
-
   pub in_order-same : (others : List Await) → InOrder order others → InOrder order' others
   in_order-same [] all = tt
-  in_order-same (a ∷ others) all = (none-same a.task others all.0, in_order-same others all.1)
+  in_order-same (a ∷ others) all = (each-on (λ x. stands_before order x.task a.task ≡ false) (λ x. stands_before order' x.task a.task ≡ false) (λ x none. same x.task a.task ∙ none) others all.0, in_order-same others all.1)
 
 -- those who go on to wait stand in order after these begins
 pub in_order-begun : (t : Table) (others : List Await) → InOrder t.order others → InOrder (table_begun t others).order (still_waiting t others)
@@ -182,15 +150,14 @@ call-order t c a b wa wb = elim (cases_Bool (is_none (refusal_of t c))) [
   | inl e ↦ rw e (changed-order t c a b (is_none-None (refusal_of t c) e) (who_waits-hungry t a wa) (who_waits-hungry t b wb))
 ]
 
--- nobody stands before one that has to wait after a call, if nobody did before it
-none-called : (t : Table) (c : Call) (u : Task) (others : List Await) → has_to_wait t u ≡ true → AllWait t others → NoneBefore t.order u others → NoneBefore (table_after_call t c).order u others
-none-called t c u [] waits all none = tt
-none-called t c u (a ∷ others) waits all none = (call-order t c a.task u all.0 waits ∙ none.0, none-called t c u others waits all.1 none.1)
-
 -- those who wait stand in order after a call
 pub in_order-called : (t : Table) (c : Call) (others : List Await) → AllWait t others → InOrder t.order others → InOrder (table_after_call t c).order others
 in_order-called t c [] all order = tt
-in_order-called t c (a ∷ others) all order = (none-called t c a.task others all.0 all.1 order.0, in_order-called t c others all.1 order.1)
+in_order-called t c (a ∷ others) all order = (
+  each-on (λ x. (has_to_wait t x.task ≡ true) × (stands_before t.order x.task a.task ≡ false)) (λ x. stands_before (table_after_call t c).order x.task a.task ≡ false) (λ x both. call-order t c x.task a.task both.0 all.0 ∙ both.1) others
+      (each-and (λ x. has_to_wait t x.task ≡ true) (λ x. stands_before t.order x.task a.task ≡ false) others all.1 order.0),
+  in_order-called t c others all.1 order.1,
+)
 
 -- ---- after each line
 
@@ -200,22 +167,20 @@ IsAtRest s = AllWait s.table s.awaits × InOrder s.table.order s.awaits
 
 -- so it is after a call and the begins that it lets go on
 rests-made : (s : Broker) (c : Call) → IsAtRest s → IsAtRest (after_making s c)
-rests-made s c (all, order) = by (retries_after s c) refl
-  where
-    by : (ends : Bool) → retries_after s c ≡ ends → AllWait (table_after_begins ends (table_after_call s.table c) s.awaits) (waiting_after ends (table_after_call s.table c) s.awaits) × InOrder (table_after_begins ends (table_after_call s.table c) s.awaits).order (waiting_after ends (table_after_call s.table c) s.awaits)
-    by true is = (all-left-wait (table_after_call s.table c) s.awaits, in_order-begun (table_after_call s.table c) s.awaits (in_order-called s.table c s.awaits all order))
-    by false is = (all-wait-on s.table (table_after_call s.table c) s.awaits (not-ended s.table c is) all, in_order-called s.table c s.awaits all order)
+rests-made s c (all, order) =
+    let left = table_after_call s.table c in
+    (all-left-wait left s.awaits, in_order-begun left s.awaits (in_order-called s.table c s.awaits all order))
 
 -- and after a request
 rests-done : (s : Broker) (pass : ℕ) (number : Option ℕ) (deed : Deed) → IsAtRest s → IsAtRest (after_deed s pass number deed)
 rests-done s pass number (Make c) rest = rests-made s c rest
-rests-done s pass number (Cancel u) (all, order) = (all-others-wait s.table pass u s.awaits all, in_order-taken_back s.table.order pass u s.awaits order)
+rests-done s pass number (Cancel u) (all, order) = (each-back (λ x. has_to_wait s.table x.task ≡ true) pass u s.awaits all, in_order-taken_back s.table.order pass u s.awaits order)
 rests-done s pass number (await u) rest = elim (cases_Bool (has_to_wait s.table u)) [
   | inl e ↦ rw e (elim (cases_Bool (is_full s)) [
     | inl f ↦ rw f rest
     | inr f ↦
         let a : Await = record { pass = pass; task = u; number = number } in
-        rw f (all-noted-wait s.table s.table.order a s.awaits e rest.0, in_order-noted s.table.order a s.awaits rest.1)
+        rw f (each-noted (λ x. has_to_wait s.table x.task ≡ true) s.table.order a s.awaits e rest.0, in_order-noted s.table.order a s.awaits rest.1)
   ])
   | inr e ↦ rw e (rests-made s (call.Begin u) rest)
 ]

@@ -78,14 +78,6 @@ module _ (order : List Diner) (apart : IsDistinct same_slot order) (a : Await) (
       turned : (m n : ℕ) → eqb m n ≡ false → eqb n m ≡ false
       turned m n h = grind (arith, nat_tests)
 
-  -- its task is present
-  pub noted-seated : (xs : List Await) → AreSeated order xs → AreSeated order (noted order a xs)
-  noted-seated [] seated = (here, tt)
-  noted-seated (b ∷ bs) seated = elim (cases_Bool (stands_before order a.task b.task)) [
-    | inl e ↦ rw e (here, seated)
-    | inr e ↦ rw e (seated.0, noted-seated bs seated.1)
-  ]
-
 -- one more waits
 pub noted-length : (order : List Diner) (a : Await) (xs : List Await) → length (noted order a xs) ≡ length xs + 1
 noted-length order a [] = refl
@@ -148,14 +140,6 @@ module _ (pass : ℕ) (u : Task) where
     | inl e ↦ subst (λ k. queue_at rows' k ≡ filter (waits_at k) (taken_back pass u xs)) (eqb-true u.slot s e)
         (changes.changed ∙ ap (taken_back pass u) (queued u.slot) ∙ sym (back-own xs))
     | inr e ↦ changes.others s e ∙ queued s ∙ sym (back-other s xs e)
-  ]
-
-  -- their tasks are present
-  pub back-seated : (order : List Diner) (xs : List Await) → AreSeated order xs → AreSeated order (taken_back pass u xs)
-  back-seated order [] seated = tt
-  back-seated order (x ∷ xs) seated = elim (cases_Bool (is_await_of pass u x)) [
-    | inl f ↦ rw f seated.1
-    | inr f ↦ rw f (seated.0, back-seated order xs seated.1)
   ]
 
   -- one fewer waits where there is one

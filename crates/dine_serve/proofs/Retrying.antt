@@ -2,12 +2,13 @@
 use Rattle.dine_serve.proofs.Words.{◌≡◌, suc, ◌-◌, true, false, not, List, [], ◌∷◌, ◌++◌, length, drop, Some, None, is_none, is_some, inl, inr, refl, sym, ap, ◌∙◌, subst, arith, cases_Bool, filter-append, AllByRecursion, filter, Call, Diner, State, Thinking, Hungry, Eating, Task, Table, same_task, stands_before, state_in, state_of, changed_by, has_to_wait, newcomer, refusal_of, refusal_unless, table_after_call, with_state, without, IsSound, absent_differs, diner_put_in-task, found, or_else-None, sound_after_call, stands_before-other_way, state_in-append_other, state_in-with_state_same, state_in-without_other, Await, AllWaitBut, AreHeld, AreQueued, AreSeated, Changes, IsKept, IsNext, IsRetried, Waiters, first_due, first_of, in_order, may_have_ended, queue_at, waits_at, AllWait, InOrder, NoneBefore}
 use Rattle.std.proofs.lemmas.List.{length-append}
 use Rattle.dine_words.specs.declared.call.Call.TheVariants as call
-use Rattle.dine_serve.proofs.FirstDue.{Splits, all-append, all-both, behind-order, due-behind, first-passes, none-all, none-front, splits, taken-queued, without-order}
+use Rattle.dine_serve.proofs.Each.{each-and, each-append, each-both, each-on}
+use Rattle.dine_serve.proofs.FirstDue.{Splits, behind-order, due-behind, first-passes, none-front, splits, taken-queued, without-order}
 use Rattle.dine_serve.proofs.Gathered.{told}
 use Rattle.dine_serve.proofs.Ordered.{begin-order, eats, in_order-called, in_order-same, newcomer-absent, not_hungry, thinks}
 use Rattle.dine_serve.proofs.Queueing.{one_task}
 use Rattle.dine_serve.proofs.Staying.{all-but}
-use Rattle.dine_serve.proofs.Waiting.{all-wait-on, is_none-None, waits-begin, who_waits-hungry}
+use Rattle.dine_serve.proofs.Waiting.{is_none-None, waits-begin, who_waits-hungry}
 
 -- ---- a task gets another state
 
@@ -96,7 +97,7 @@ module _ (t : Table) (w : Waiters) (c : Call) (r : IsRetried t c w) (a : Await) 
   Present x = is_some (state_in t.order x.task) ≡ true
 
   seated : AllByRecursion Present s.front × AllByRecursion Present (a ∷ s.back)
-  seated = all-append Present s.front (a ∷ s.back) (subst (AllByRecursion Present) s.all r.held.seated)
+  seated = each-append Present s.front (a ∷ s.back) (subst (AllByRecursion Present) s.all r.held.seated)
 
   ordered : InOrder t.order (s.front ++ a ∷ s.back)
   ordered = subst (InOrder t.order) s.all r.ordered
@@ -108,18 +109,14 @@ module _ (t : Table) (w : Waiters) (c : Call) (r : IsRetried t c w) (a : Await) 
   pub left-order : in_order (table_after_call t (call.Begin a.task)).order w'.rows ≡ left
   left-order =
       in_order-begin t a.task w'.rows
-      ∙ told t.order w'.rows left r.sound.each_slot_once (all-both Present s.front s.back seated.0 seated.1.1) (without-order t.order s.front a s.back ordered) queued
+      ∙ told t.order w'.rows left r.sound.each_slot_once (each-both Present s.front s.back seated.0 seated.1.1) (without-order t.order s.front a s.back ordered) queued
 
   abbrev t' : Table
   t' = table_after_call t (call.Begin a.task)
 
   -- those before it have to wait yet
   pub waits-front : AllWait t' s.front
-  waits-front = all-wait-on t t' s.front (waits-begin t a.task) s.wait
-
-  map-all : (P Q : Await → Type 0) → ((x : Await) → P x → Q x) → (xs : List Await) → AllByRecursion P xs → AllByRecursion Q xs
-  map-all P Q on [] each = tt
-  map-all P Q on (x ∷ xs) each = (on x each.0, map-all P Q on xs each.1)
+  waits-front = each-on (λ x. has_to_wait t x.task ≡ true) (λ x. has_to_wait t' x.task ≡ true) (λ x waits. waits-begin t a.task x.task waits) s.front s.wait
 
   -- it has to wait unless its wait may have ended
   abbrev But : Table → Await → Type 0
@@ -130,12 +127,12 @@ module _ (t : Table) (w : Waiters) (c : Call) (r : IsRetried t c w) (a : Await) 
   retried-on = record {
     sound = sound_after_call t (call.Begin a.task) r.sound;
     held = record {
-      seated = subst (AreSeated t'.order) (sym left-order) (map-all Present (λ x. is_some (state_in t'.order x.task) ≡ true) (λ x here. seated-begin t a.task x.task here) left (all-both Present s.front s.back seated.0 seated.1.1));
+      seated = subst (AreSeated t'.order) (sym left-order) (each-on Present (λ x. is_some (state_in t'.order x.task) ≡ true) (λ x here. seated-begin t a.task x.task here) left (each-both Present s.front s.back seated.0 seated.1.1));
       queued = subst (AreQueued w'.rows) (sym left-order) queued;
     };
     ordered = subst (InOrder t'.order) (sym left-order) (in_order-same t.order t'.order (begin-order t a.task) left (without-order t.order s.front a s.back ordered));
     counted = one_fewer ∙ ap length (sym left-order);
-    waits = subst (AllWaitBut t' c) (sym left-order) (map-all (But t) (But t') still left (all-both (But t) s.front s.back buts.0 buts.1.1));
+    waits = subst (AllWaitBut t' c) (sym left-order) (each-on (But t) (But t') still left (each-both (But t) s.front s.back buts.0 buts.1.1));
   }
     where
       one_fewer : w'.len ≡ length left
@@ -145,7 +142,7 @@ module _ (t : Table) (w : Waiters) (c : Call) (r : IsRetried t c w) (a : Await) 
       still x waits none = waits-begin t a.task x.task (waits (sym (may_end-begin t a.task c x.task) ∙ none))
 
       buts : AllByRecursion (But t) s.front × AllByRecursion (But t) (a ∷ s.back)
-      buts = all-append (But t) s.front (a ∷ s.back) (subst (AllByRecursion (But t)) s.all r.waits)
+      buts = each-append (But t) s.front (a ∷ s.back) (subst (AllByRecursion (But t)) s.all r.waits)
 
   -- behind one that was made those of its task come first
   back-first : (b : Await) (xs : List Await) → AllByRecursion Present xs → NoneBefore t.order a.task xs → InOrder t.order xs → first_of (filter (waits_at a.task.slot) xs) ≡ Some b → (rest : List Await) × (xs ≡ b ∷ rest)
@@ -153,7 +150,7 @@ module _ (t : Table) (w : Waiters) (c : Call) (r : IsRetried t c w) (a : Await) 
   back-first b (x ∷ xs) here none order h = elim (cases_Bool (waits_at a.task.slot x)) [
     | inl e ↦ let same : x ≡ b = inner x b (rw e at h) in (xs, ap (λ y. y ∷ xs) same)
     | inr e ↦
-        let later = first-passes (λ y. is_some (state_in t.order y.task) ≡ true × (stands_before t.order y.task x.task ≡ false)) (waits_at a.task.slot) xs b (both Present (λ y. stands_before t.order y.task x.task ≡ false) xs here.1 (none-all t.order x.task xs order.0)) (rw e at h) in
+        let later = first-passes (λ y. is_some (state_in t.order y.task) ≡ true × (stands_before t.order y.task x.task ≡ false)) (waits_at a.task.slot) xs b (each-and Present (λ y. stands_before t.order y.task x.task ≡ false) xs here.1 order.0) (rw e at h) in
         let same : a.task ≡ b.task = one_task t.order a.task b.task r.sound.each_slot_once seated.1.0 later.0.0 later.1 in
         let off : same_task a.task x.task ≡ false = rw e refl in
         let way : stands_before t.order x.task a.task ≡ not (stands_before t.order a.task x.task) = stands_before-other_way t.order a.task x.task off seated.1.0 here.0 in
@@ -163,10 +160,6 @@ module _ (t : Table) (w : Waiters) (c : Call) (r : IsRetried t c w) (a : Await) 
     where
       inner : (y z : Await) → Some y ≡ Some z → y ≡ z
       inner y z k = cc
-
-      both : (P Q : Await → Type 0) (ys : List Await) → AllByRecursion P ys → AllByRecursion Q ys → AllByRecursion (λ y. P y × Q y) ys
-      both P Q [] p q = tt
-      both P Q (y ∷ ys) p q = ((p.0, q.0), both P Q ys p.1 q.1)
 
   -- so the next at its slot is due first
   pub next-there : IsNext t' w'.rows a.task.slot
@@ -229,11 +222,7 @@ module _ (t : Table) (c : Call) (w : Waiters) (k : IsKept t w) where
   sound' = sound_after_call t c k.sound
 
   seated' : AreSeated after.order waiting
-  seated' = each waiting k.all_wait
-    where
-      each : (xs : List Await) → AllWait t xs → AreSeated after.order xs
-      each [] wait = tt
-      each (x ∷ xs) wait = (present-called t c x.task wait.0, each xs wait.1)
+  seated' = each-on (λ x. has_to_wait t x.task ≡ true) (λ x. is_some (state_in after.order x.task) ≡ true) (λ x waits. present-called t c x.task waits) waiting k.all_wait
 
   ordered' : InOrder after.order waiting
   ordered' = in_order-called t c waiting k.all_wait k.ordered

@@ -1,9 +1,10 @@
 -- Whoever has to wait waits on after a call that can't have ended its wait.
-use Rattle.dine_serve.proofs.Words.{◌≡◌, ℕ, ◌+◌, Bool, true, false, not, ◌&&◌, List, [], ◌∷◌, ◌++◌, Option, Some, None, is_none, inl, inr, refl, sym, ap, ◌∙◌, append-nil, map, cons_option, filter, list_any, and_parts, cases_Bool, or_cases, or_parts, Contains-from_any, Call, Refusal, Done, Diner, Thinking, Eating, Task, entry_text, text_of_lines, is_done, may_end_waits, Table, are_in_conflict, is_between, keeps_waiting, neighbours_in, neighbours_of, other_end, same_task, state_in, state_of, acceptance_of, has_to_wait, moved_last, refusal_of, reply_of, table_after_call, with_state, without, conflict_either_way, found, neighbours_exactly, same_task-sym, same_task-true, stands_before-append, stands_before-with_state, stands_before-without, state_in-append_other, state_in-with_state_other, state_in-without_other, Await, Receipt, AllWaitBut, may_have_ended, Broker, after_begins, after_making, retries_after, AllWait, begun_after, begun_from, is_accepted, receipts_begun, still_waiting, table_begun}
+use Rattle.dine_serve.proofs.Words.{◌≡◌, ℕ, ◌+◌, Bool, true, false, not, ◌&&◌, List, [], ◌∷◌, ◌++◌, Option, Some, None, is_none, inl, inr, refl, sym, ap, ◌∙◌, subst, append-nil, map, cons_option, filter, list_any, and_parts, cases_Bool, or_cases, or_parts, Contains-from_any, Call, Refusal, Done, Diner, Thinking, Eating, Task, entry_text, text_of_lines, is_done, may_end_waits, Table, are_in_conflict, is_between, keeps_waiting, neighbours_in, neighbours_of, other_end, same_task, state_in, state_of, acceptance_of, has_to_wait, moved_last, refusal_of, reply_of, table_after_call, with_state, without, conflict_either_way, found, neighbours_exactly, same_task-sym, same_task-true, stands_before-append, stands_before-with_state, stands_before-without, state_in-append_other, state_in-with_state_other, state_in-without_other, Await, Receipt, AllWaitBut, may_have_ended, Broker, after_making, AllWait, begun_from, receipts_begun, still_waiting, table_begun}
 use Rattle.dine_words.specs.declared.call.Call.TheVariants as call
 use Rattle.dine_serve.proofs.ComingAndGoing.{waits-conflict, waits-join, waits-leave}
+use Rattle.dine_serve.proofs.Each.{each-on}
 use Rattle.dine_serve.proofs.Ordered.{eats, not_hungry}
-use Rattle.dine_serve.proofs.Waiting.{is_none-None, not-ended, waits-begin, waits-hungry, waits-if, waits-only}
+use Rattle.dine_serve.proofs.Waiting.{is_none-None, waits-begin, waits-hungry, waits-if, waits-only}
 
 -- ---- who keeps a task waiting
 
@@ -124,13 +125,16 @@ unended-waits t (call.Begin v) u waits none = waits-begin t v u waits
 
 -- so all do who had to wait
 pub all-but : (t : Table) (c : Call) (others : List Await) → AllWait t others → AllWaitBut (table_after_call t c) c others
-all-but t c [] all = tt
-all-but t c (a ∷ others) all = (λ none. unended-waits t c a.task all.0 none, all-but t c others all.1)
+all-but t c others all = each-on (λ x. has_to_wait t x.task ≡ true) (λ x. may_have_ended (table_after_call t c) c x.task ≡ false → has_to_wait (table_after_call t c) x.task ≡ true) (λ x waits none. unended-waits t c x.task waits none) others all
 
--- a call that isn't done, and would be if it were accepted, was refused
-unaccepted : (t : Table) (c : Call) (o : Option Refusal) → refusal_of t c ≡ o → acceptance_of t c ≡ Done → is_done (reply_of t c) ≡ false → is_accepted (reply_of t c) ≡ false
-unaccepted t c None is done none = absurd (let two : true ≡ false = sym (ap is_done done) ∙ rw is at none in cc)
-unaccepted t c (Some refusal) is done none = rw is refl
+-- a call that isn't done, and would be if it were accepted, was refused, and so changed nothing
+undone-same : (t : Table) (c : Call) (o : Option Refusal) → refusal_of t c ≡ o → acceptance_of t c ≡ Done → is_done (reply_of t c) ≡ false → table_after_call t c ≡ t
+undone-same t c None is done none = absurd (let two : true ≡ false = sym (ap is_done done) ∙ rw is at none in cc)
+undone-same t c (Some refusal) is done none = rw is refl
+
+-- whoever has to wait still does after it
+undone-waits : (t : Table) (c : Call) (u : Task) → acceptance_of t c ≡ Done → is_done (reply_of t c) ≡ false → has_to_wait t u ≡ true → has_to_wait (table_after_call t c) u ≡ true
+undone-waits t c u done none waits = subst (λ x. has_to_wait x u ≡ true) (sym (undone-same t c (refusal_of t c) refl done none)) waits
 
 -- where a call can't have ended a wait, whoever waited waits on
 pub may_end-waits : (t : Table) (c : Call) → may_end_waits c (reply_of t c) ≡ false → (u : Task) → has_to_wait t u ≡ true → has_to_wait (table_after_call t c) u ≡ true
@@ -139,12 +143,9 @@ may_end-waits t (call.Leave v) none u waits = waits-leave t v u waits
 may_end-waits t (call.Conflict v w) none u waits = waits-conflict t v w u waits
 may_end-waits t (call.Hungry v) none u waits = waits-hungry t v u waits
 may_end-waits t (call.Begin v) none u waits = waits-begin t v u waits
-may_end-waits t (call.Separate v w) none u waits =
-    not-ended t (call.Separate v w) (unaccepted t (call.Separate v w) (refusal_of t (call.Separate v w)) refl refl none) u waits
-may_end-waits t (call.Finish v) none u waits =
-    not-ended t (call.Finish v) (unaccepted t (call.Finish v) (refusal_of t (call.Finish v)) refl refl none) u waits
-may_end-waits t (call.Withdraw v) none u waits =
-    not-ended t (call.Withdraw v) (unaccepted t (call.Withdraw v) (refusal_of t (call.Withdraw v)) refl refl none) u waits
+may_end-waits t (call.Separate v w) none u waits = undone-waits t (call.Separate v w) u refl none waits
+may_end-waits t (call.Finish v) none u waits = undone-waits t (call.Finish v) u refl none waits
+may_end-waits t (call.Withdraw v) none u waits = undone-waits t (call.Withdraw v) u refl none waits
 
 -- ---- nobody begins where all wait
 
@@ -168,19 +169,12 @@ all-rest t (a ∷ others) receipts all =
       none = rw waits rest.none;
     }
 
--- so a broker stands where it stood
-pub none-begin : (ends : Bool) (s : Broker) → (ends ≡ true → AllWait s.table s.awaits) → after_begins ends s ≡ s
-none-begin false s all = refl
-none-begin true s all =
-    let rest = all-rest s.table s.awaits s.receipts (all refl) in
-    let as_before : after_begins true s ≡ record s { table = s.table; awaits = s.awaits; receipts = s.receipts } = rw (rest.table, rest.left, rest.kept) refl in
-    as_before
+-- so nothing is said
+pub nothing-said : (t : Table) (others : List Await) (out : List ℕ) → AllWait t others → out ≡ out ++ text_of_lines (map entry_text (begun_from t others))
+nothing-said t others out all = rw (all-rest t others [] all).none (sym (append-nil out))
 
--- and nothing is said
-pub nothing-said : (ends : Bool) (s : Broker) (out : List ℕ) → (ends ≡ true → AllWait s.table s.awaits) → out ≡ out ++ text_of_lines (map entry_text (begun_after ends s.table s.awaits))
-nothing-said false s out all = sym (append-nil out)
-nothing-said true s out all = rw (all-rest s.table s.awaits s.receipts (all refl)).none (sym (append-nil out))
-
--- where all have to wait after a call, it lets none go on
+-- and where all have to wait after a call, it lets none go on
 pub called-resting : (s : Broker) (c : Call) → AllWait (table_after_call s.table c) s.awaits → after_making s c ≡ record s { table = table_after_call s.table c }
-called-resting s c all = none-begin (retries_after s c) (record s { table = table_after_call s.table c }) (λ tries. all)
+called-resting s c all =
+    let rest = all-rest (table_after_call s.table c) s.awaits s.receipts all in
+    rw (rest.table, rest.left, rest.kept) refl

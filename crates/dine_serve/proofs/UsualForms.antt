@@ -1,5 +1,6 @@
 -- Requests of the usual forms are what their whole lines ask for.
-use Rattle.dine_serve.proofs.Words.{◌≡◌, ℕ, ◌==◌, ◌-◌, Bool, ◌^◌, ◌<◌, ◌≤◌, true, false, ◌&&◌, nat_le, nat_lt, List, [], ◌∷◌, ◌++◌, length, map, take, drop, codes, decimal, Option, Some, None, Result, IsErr, Ok, inl, inr, refl, sym, ap, ◌∙◌, subst, append_assoc, append-nil, length-append, length-drop, arith, lit≤, and_parts, cases_Bool, nat_tests, take_all, MatchResult-from_err, Bor, is_ascii_digit, CallOnOne, Task, call_about_one, opening_on_one, begins_with_number, digits_after, number_at, task_at, word_at, FitsTask, task_text, text_of_lines, bind-Some, number_at-Some, number_at-decimal, task_at-Some, task_at-text, word_at-Some, begun_line, ended_lines, seen_lines, seen_of, IsShort, begun-on, begun-pieces, ended-pieces, short-both, short-decimal, short-more, short-task, is_blank, is_passed_over, pieces_of, words_of, Deed, Make, Cancel, Request, Numbered, Order, StopsAtReading, deed_of, numbered_by, numbered_request, order_at, pass_at, reading_of, request_by, request_of, spaced_at, Broker, after_reading, counted, said_to, AnswersFirst, Asks, AsksDeed, StopsAtFirst, TakesFirst}
+use Rattle.dine_serve.proofs.Words.{◌≡◌, ℕ, ◌==◌, ◌-◌, Bool, ◌^◌, ◌<◌, ◌≤◌, true, false, ◌&&◌, nat_le, nat_lt, List, [], ◌∷◌, ◌++◌, length, map, take, drop, codes, decimal, Option, Some, None, Ok, inl, inr, refl, sym, ap, ◌∙◌, subst, append_assoc, append-nil, length-append, length-drop, arith, lit≤, and_parts, cases_Bool, nat_tests, take-append_seam, take_all, is_ascii_digit, CallOnOne, Task, call_about_one, opening_on_one, begins_with_number, digits_after, number_at, task_at, word_at, FitsTask, task_text, text_of_lines, bind-Some, number_at-Some, number_at-decimal, task_at-Some, task_at-text, word_at-Some, begun_line, ended_lines, seen_lines, seen_of, IsShort, begun-on, begun-pieces, ended-pieces, short-both, short-decimal, short-more, short-task, is_blank, is_passed_over, pieces_of, words_of, Deed, Make, Cancel, Request, Numbered, Order, StopsAtReading, deed_of, numbered_by, numbered_request, order_at, pass_at, reading_of, request_by, request_of, spaced_at, Broker, after_reading, counted, said_to, serves, Asks, AsksDeed, StopsAtFirst, Takes, takes-line}
+use Rattle.dine_serve.proofs.Lined.{reading_begins}
 use Rattle.dine_words.specs.declared.call_word.CallOnOne.TheVariants as one
 use Rattle.dine_serve.specs.declared.request.Deed.TheVariants.{Await as await}
 
@@ -97,10 +98,12 @@ module _ (numbered : Bool) (pass : ℕ) (request : Request) (body text rest : Li
   asks = record {
     line = whole;
     first = record {
+      front = whole ++ 10 ∷ [];
+      cut = cut ∙ sym (append_assoc whole (10 ∷ []) rest);
       seen = ap (map seen_of) ended ∙ ap (λ l. l ∷ seen_lines [] rest) is_seen;
       begun = sym (ap (begun_line []) cut ∙ begun-pieces [] whole (10 ∷ rest));
-      shorter = (let more = ap length cut in omega (arith, more, length-append whole (10 ∷ rest)));
     };
+    shorter = (let more = ap length cut in omega (arith, more, length-append whole (10 ∷ rest)));
     reading = read;
   }
 
@@ -154,13 +157,11 @@ numbered-asks numbered pass number deed text behind asked rest have front next w
 -- ---- it is answered, after its line was counted
 
 -- answering it answers that line
-pub usual-answers : {s t s' : Broker} {request : Request} {text rest before after : List ℕ} → Asks s.is_numbered request text rest → t ≡ counted s → s' ≡ after_reading t (Ok (Some request)) → after ≡ before ++ text_of_lines (said_to t (Ok (Some request))) → AnswersFirst s s' text rest before after
-usual-answers {s = s} {request = request} {before = before} asked is_counted leaves said = record {
-  line = Some asked.line;
-  first = asked.first;
-  leaves = leaves ∙ ap (λ b. after_reading b (Ok (Some request))) is_counted ∙ ap (after_reading (counted s)) (sym asked.reading);
-  said = said ∙ ap (λ b. before ++ text_of_lines (said_to b (Ok (Some request)))) is_counted ∙ ap (λ r. before ++ text_of_lines (said_to (counted s) r)) (sym asked.reading);
-}
+pub usual-answers : {s t s' : Broker} {request : Request} {text rest before after : List ℕ} → Asks s.is_numbered request text rest → t ≡ counted s → s' ≡ after_reading t (Ok (Some request)) → after ≡ before ++ text_of_lines (said_to t (Ok (Some request))) → Takes serves s s' text rest before after
+usual-answers {s = s} {s' = s'} {request = request} {text = text} {rest = rest} {before = before} {after = after} asked is_counted leaves said =
+    takes-line serves s s' text rest before after (Some asked.line) asked.first
+    (leaves ∙ ap (λ b. after_reading b (Ok (Some request))) is_counted ∙ ap (after_reading (counted s)) (sym asked.reading))
+    (said ∙ ap (λ b. before ++ text_of_lines (said_to b (Ok (Some request)))) is_counted ∙ ap (λ r. before ++ text_of_lines (said_to (counted s) r)) (sym asked.reading))
 
 -- and where memory is wanting on the way to its answer, it is wanting on the way to that of the line
 pub usual-stops : {s t s' : Broker} {request : Request} {text rest before after : List ℕ} → Asks s.is_numbered request text rest → t ≡ counted s → StopsAtReading t s' (Ok (Some request)) before after → StopsAtFirst s s' text before after
@@ -173,9 +174,11 @@ usual-stops {s = s} {s' = s'} {request = request} {rest = rest} {before = before
       (subst (λ b. StopsAtReading b s' (Ok (Some request)) before after) is_counted stops);
 }
 
--- so the first line is taken, where there is an error
-pub taken_in_part : {E : Type 0} {s s' : Broker} {text before after : List ℕ} (r : Result (Bor (List ℕ)) E) → IsErr r → StopsAtFirst s s' text before after → TakesFirst r s s' text before after
-taken_in_part {s = s} {s' = s'} {text = text} {before = before} {after = after} r failed stops = MatchResult-from_err r (λ rest. AnswersFirst s s' text rest.now before after) _ failed (λ error. stops)
+-- what stood before still stands then, so it is what is left where the rest is cut off
+pub stops-cut : (s s' : Broker) (text before after : List ℕ) → StopsAtFirst s s' text before after → take (length before) after ≡ before
+stops-cut s s' text before after h =
+    let (more, is) = reading_begins (counted s) s' (reading_of s.is_numbered h.line) before after h.stops in
+    ap (take (length before)) (sym is) ∙ take-append_seam before more
 
 -- ---- a text of whole lines
 

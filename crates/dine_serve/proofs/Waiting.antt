@@ -1,5 +1,5 @@
 -- Whoever has to wait waits on while others grow hungry or begin, and after each line all who are noted have to wait.
-use Rattle.dine_serve.proofs.Words.{◌≡◌, ℕ, ◌+◌, Bool, true, false, List, [], ◌∷◌, Option, Some, None, is_some, is_none, inl, inr, refl, sym, ap, ◌∙◌, subst, arith, list_any, cases_Bool, Call, Refusal, Diner, State, Thinking, Hungry, Eating, Task, Table, keeps_waiting, neighbours_of, same_task, stands_before, state_in, state_of, acceptance_of, has_to_wait, refusal_of, refusal_unless, reply_of, table_after_call, with_state, found, or_else-None, same_task-true, stands_before-with_state, state_in-with_state_other, state_in-with_state_same, Await, AllWait, awaits_of, begins_of, begun_from, is_await_of, noted, retries_waits, still_waiting, table_begun, taken_back}
+use Rattle.dine_serve.proofs.Words.{◌≡◌, ℕ, ◌+◌, Bool, true, false, List, [], ◌∷◌, Option, Some, None, is_some, is_none, inl, inr, refl, sym, ap, ◌∙◌, subst, arith, list_any, cases_Bool, State, Thinking, Hungry, Eating, Task, Table, keeps_waiting, neighbours_of, same_task, state_in, state_of, has_to_wait, refusal_of, refusal_unless, table_after_call, with_state, found, or_else-None, same_task-true, stands_before-with_state, state_in-with_state_other, state_in-with_state_same, Await, AllWait, awaits_of, begins_of, begun_from, still_waiting, table_begun}
 use Rattle.dine_words.specs.declared.call.Call.TheVariants as call
 
 -- ---- who has to wait
@@ -117,49 +117,6 @@ all-left-wait t (a ∷ others) = elim (cases_Bool (has_to_wait t a.task)) [
   | inl e ↦ rw e (waits-through t others a.task e, all-left-wait t others)
   | inr e ↦ rw e (all-left-wait (table_after_call t (call.Begin a.task)) others)
 ]
-
--- whoever is noted or taken back, the others wait on
-pub all-noted-wait : (t : Table) (order : List Diner) (a : Await) (others : List Await) → has_to_wait t a.task ≡ true → AllWait t others → AllWait t (noted order a others)
-all-noted-wait t order a [] waits all = (waits, tt)
-all-noted-wait t order a (b ∷ bs) waits all = elim (cases_Bool (stands_before order a.task b.task)) [
-  | inl e ↦ rw e (waits, all)
-  | inr e ↦ rw e (all.0, all-noted-wait t order a bs waits all.1)
-]
-
--- the others have to wait where one is taken back
-pub all-others-wait : (t : Table) (pass : ℕ) (u : Task) (others : List Await) → AllWait t others → AllWait t (taken_back pass u others)
-all-others-wait t pass u [] all = tt
-all-others-wait t pass u (a ∷ others) all = elim (cases_Bool (is_await_of pass u a)) [
-  | inl e ↦ rw e all.1
-  | inr e ↦ rw e (all.0, all-others-wait t pass u others all.1)
-]
-
--- where each waits on, all do
-pub all-wait-on : (t t' : Table) (others : List Await) → ((u : Task) → has_to_wait t u ≡ true → has_to_wait t' u ≡ true) → AllWait t others → AllWait t' others
-all-wait-on t t' [] each all = tt
-all-wait-on t t' (a ∷ others) each all = (each a.task all.0, all-wait-on t t' others each all.1)
-
--- ---- after each line
-
--- a call after which none are tried again, and would be if it were accepted, changes nothing
-other_call : (t : Table) (c : Call) (o : Option Refusal) → refusal_of t c ≡ o → retries_waits c (acceptance_of t c) ≡ true → retries_waits c (reply_of t c) ≡ false → table_after_call t c ≡ t
-other_call t c None is accepted no_end = absurd (let two : true ≡ false = sym accepted ∙ rw is at no_end in cc)
-other_call t c (Some refusal) is accepted no_end = rw is refl
-
--- whoever has to wait still does after a call that changes nothing
-stays : (t : Table) (c : Call) (u : Task) → table_after_call t c ≡ t → has_to_wait t u ≡ true → has_to_wait (table_after_call t c) u ≡ true
-stays t c u same waits = subst (λ x. has_to_wait x u ≡ true) (sym same) waits
-
--- where none are tried again after a call, whoever waited waits on
-pub not-ended : (t : Table) (c : Call) → retries_waits c (reply_of t c) ≡ false → (u : Task) → has_to_wait t u ≡ true → has_to_wait (table_after_call t c) u ≡ true
-not-ended t (call.Hungry v) no_end u waits = waits-hungry t v u waits
-not-ended t (call.Begin v) no_end u waits = waits-begin t v u waits
-not-ended t call.Join no_end u waits = stays t call.Join u (other_call t call.Join (refusal_of t call.Join) refl refl no_end) waits
-not-ended t (call.Leave v) no_end u waits = stays t (call.Leave v) u (other_call t (call.Leave v) (refusal_of t (call.Leave v)) refl refl no_end) waits
-not-ended t (call.Conflict v w) no_end u waits = stays t (call.Conflict v w) u (other_call t (call.Conflict v w) (refusal_of t (call.Conflict v w)) refl refl no_end) waits
-not-ended t (call.Separate v w) no_end u waits = stays t (call.Separate v w) u (other_call t (call.Separate v w) (refusal_of t (call.Separate v w)) refl refl no_end) waits
-not-ended t (call.Finish v) no_end u waits = stays t (call.Finish v) u (other_call t (call.Finish v) (refusal_of t (call.Finish v)) refl refl no_end) waits
-not-ended t (call.Withdraw v) no_end u waits = stays t (call.Withdraw v) u (other_call t (call.Withdraw v) (refusal_of t (call.Withdraw v)) refl refl no_end) waits
 
 -- ---- how often
 

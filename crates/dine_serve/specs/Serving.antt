@@ -1,13 +1,13 @@
 -- What is said to the lines that are heard, one after the other.
 use Rattle.std.specs.Prelude.{ℕ, nat_le, ◌+◌, ◌-◌, ◌^◌, ◌<◌, Bool, true, false, ◌||◌, if◌then◌else◌, length, List, [], ◌∷◌, ◌++◌, map, slice_set, Option, Some, None, is_some, Result, Ok, Err}
-use Rattle.dine_serve.specs.Words.{Call, Entry, Limits, Table, opening_table, has_to_wait, reply_of, table_after_call, entry_text, header_text, written_version, begun_line, seen_lines, LineFault, Await, Deed, Make, Cancel, Request, Ask, Order, Numbered, RequestAnswer, Made, Cancelled, Waits, Coming, First, Again, Stale, Foreign, Receipt}
+use Rattle.dine_serve.specs.Words.{Call, Entry, Limits, Table, opening_table, has_to_wait, table_after_call, entry_text, header_text, written_version, Rules, left_by, printed_for, printed_from, standing_after, seen_lines, LineFault, Await, Deed, Make, Cancel, Request, Ask, Order, Numbered, RequestAnswer, Made, Cancelled, Waits, Coming, First, Again, Stale, Foreign, Receipt}
 use Rattle.dine_words.specs.declared.call.Call.TheVariants as call
 use Rattle.dine_serve.specs.declared.request_fault.LineFault.TheVariants as fault
 use Rattle.dine_serve.specs.declared.request.Deed.TheVariants.{Await as await}
 use Rattle.dine_serve.specs.Answers.{again_lines, answer_line, cancelled_line, entry_in, fault_line}
 use Rattle.dine_serve.specs.Receipts.{coming_of, no_receipts}
 use Rattle.dine_serve.specs.Requests.{reading_of}
-use Rattle.dine_serve.specs.Waits.{begun_after, is_noted, noted, receipts_after, retries_waits, table_after_begins, taken_back, waiting_after}
+use Rattle.dine_serve.specs.Waits.{begun_from, is_noted, noted, receipts_begun, still_waiting, table_begun, taken_back}
 
 -- where a broker stands: the table that the calls left, the begins that wait, what each pass asked last, whether requests
 -- have numbers, how many lines were heard, and whether one of them had a fault
@@ -59,27 +59,19 @@ counted s = record s { lines = s.lines + 1 }
 abbrev pub is_full : Broker → Bool
 is_full s = nat_le s.table.limits.tasks (length s.awaits)
 
--- the begins that wait are tried again after a call, by the reply that it gets
-abbrev pub retries_after : Broker → Call → Bool
-retries_after s asked = retries_waits asked (reply_of s.table asked)
-
--- the entries of a call of a pass: its own, and those of the begins that wait no longer
+-- the entries of a call of a pass: its own, and those of the begins that wait no longer after it
 abbrev pub entries_made : Broker → ℕ → Call → List Entry
-entries_made s pass asked =
-    entry_in s.table pass asked ∷ begun_after (retries_after s asked) (table_after_call s.table asked) s.awaits
+entries_made s pass asked = entry_in s.table pass asked ∷ begun_from (table_after_call s.table asked) s.awaits
 
--- where the broker stands after the begins that wait no longer, where some may do so
-abbrev pub after_begins : Bool → Broker → Broker
-after_begins ends s =
-    record s {
-      table = table_after_begins ends s.table s.awaits;
-      awaits = waiting_after ends s.table s.awaits;
-      receipts = receipts_after ends s.table s.awaits s.receipts;
-    }
-
--- where the broker stands after it
+-- where the broker stands after it and them
 abbrev pub after_making : Broker → Call → Broker
-after_making s asked = after_begins (retries_after s asked) record s { table = table_after_call s.table asked }
+after_making s asked =
+    let left = table_after_call s.table asked in
+    record s {
+      table = table_begun left s.awaits;
+      awaits = still_waiting left s.awaits;
+      receipts = receipts_begun left s.awaits s.receipts;
+    }
 
 -- the entries of what a pass wants done. A begin that has to wait makes none yet
 abbrev pub entries_done : Broker → ℕ → Deed → List Entry
@@ -169,19 +161,38 @@ entries_by s (Ok (Some (Order pass deed))) = entries_done s pass deed
 entries_by s (Ok (Some (Numbered pass number deed))) = entries_coming s pass deed (coming_of s.receipts pass number)
 entries_by s (Err found) = []
 
+-- ---- a broker as a command
+
+-- what is said of a last line that has no line feed: it may be torn, so it isn't carried out
+abbrev pub said_of_begun : Broker → List ℕ → List (List ℕ)
+said_of_begun s [] = []
+said_of_begun s (byte ∷ bytes) = said_to (counted s) (Err fault.Torn)
+
+-- where the broker stands after it
+abbrev pub after_begun : Broker → List ℕ → Broker
+after_begun s [] = s
+after_begun s (byte ∷ bytes) = after_reading (counted s) (Err fault.Torn)
+
+-- what it says, and where each line leaves it. It opens the journal of what it is asked
+abbrev pub serves : Rules Broker
+serves =
+    record {
+      prints_first = λ s. header_text written_version s.table.limits ∷ [];
+      prints = λ s line. said_to (counted s) (reading_of s.is_numbered line);
+      after = λ s line. after_reading (counted s) (reading_of s.is_numbered line);
+      prints_last = said_of_begun;
+      after_last = after_begun;
+    }
+
 -- ---- many lines, as they are seen
 
 -- the lines that answer them
 abbrev pub said_from : Broker → List (Option (List ℕ)) → List (List ℕ)
-said_from s [] = []
-said_from s (line ∷ lines) =
-    let reading = reading_of s.is_numbered line in
-    said_to (counted s) reading ++ said_from (after_reading (counted s) reading) lines
+said_from s lines = printed_from serves s lines
 
 -- where the broker stands after them
 abbrev pub standing_from : Broker → List (Option (List ℕ)) → Broker
-standing_from s [] = s
-standing_from s (line ∷ lines) = standing_from (after_reading (counted s) (reading_of s.is_numbered line)) lines
+standing_from s lines = left_by serves s lines
 
 -- the entries of the calls that they make
 abbrev pub entries_from : Broker → List (Option (List ℕ)) → List Entry
@@ -192,24 +203,13 @@ entries_from s (line ∷ lines) =
 
 -- ---- an input
 
--- what is said of a last line that has no line feed: it may be torn, so it isn't carried out
-abbrev pub said_of_begun : Broker → List ℕ → List (List ℕ)
-said_of_begun s [] = []
-said_of_begun s (byte ∷ bytes) = fault_line (s.lines + 1) fault.Torn ∷ []
-
--- there is such a line
-abbrev pub is_torn : List ℕ → Bool
-is_torn [] = false
-is_torn (byte ∷ bytes) = true
-
 -- what is said to an input from where the broker stands
 abbrev pub said_to_input : Broker → List ℕ → List (List ℕ)
-said_to_input s input =
-    said_from s (seen_lines [] input) ++ said_of_begun (standing_from s (seen_lines [] input)) (begun_line [] input)
+said_to_input s input = printed_for serves s input
 
 -- a line of the input has a fault, or a line before it had
 abbrev pub has_fault_of : Broker → List ℕ → Bool
-has_fault_of s input = (standing_from s (seen_lines [] input)).has_fault || is_torn (begun_line [] input)
+has_fault_of s input = (standing_after serves s input).has_fault
 
 -- the history of the calls of an input
 abbrev pub history_of : Broker → List ℕ → List Entry

@@ -1,29 +1,10 @@
 -- Begins that wait until they would be answered otherwise than `not-yet`.
 use Rattle.std.specs.Prelude.{◌≡◌, ℕ, ◌==◌, ◌+◌, Bool, true, false, ◌&&◌, if◌then◌else◌, List, [], ◌∷◌, Option}
-use Rattle.dine_serve.specs.Words.{Call, Reply, Joined, Done, Refused, Entry, Diner, Task, Table, same_task, stands_before, has_to_wait, table_after_call, is_begin_of, Await, Receipt}
+use Rattle.std.specs.List.{AllByRecursion}
+use Rattle.dine_serve.specs.Words.{Entry, Diner, Task, Table, same_task, stands_before, has_to_wait, table_after_call, is_begin_of, Await, Receipt}
 use Rattle.dine_words.specs.declared.call.Call.TheVariants as call
 use Rattle.dine_serve.specs.Answers.{entry_in}
 use Rattle.dine_serve.specs.Receipts.{settled}
-
--- ---- after which calls begins that wait are tried again
-
--- the reply is no refusal: the call was accepted
-abbrev pub is_accepted : Reply → Bool
-is_accepted (Joined u) = true
-is_accepted Done = true
-is_accepted (Refused refusal) = false
-
--- the begins that wait are tried again after a call with this reply: after each that is accepted but a hunger and a begin.
--- No other call ends a wait, and of these some do
-abbrev pub retries_waits : Call → Reply → Bool
-retries_waits call.Join reply = is_accepted reply
-retries_waits (call.Leave u) reply = is_accepted reply
-retries_waits (call.Conflict u v) reply = is_accepted reply
-retries_waits (call.Separate u v) reply = is_accepted reply
-retries_waits (call.Hungry u) reply = false
-retries_waits (call.Begin u) reply = false
-retries_waits (call.Finish u) reply = is_accepted reply
-retries_waits (call.Withdraw u) reply = is_accepted reply
 
 -- ---- the begins that wait, in the order of last meals
 
@@ -90,35 +71,15 @@ begins_of pass u (e ∷ es) = (if (e.pass == pass) && is_begin_of u e.call then 
 
 -- each of them has to wait
 abbrev pub AllWait : Table → List Await → Type 0
-AllWait t [] = Unit {0}
-AllWait t (a ∷ others) = (has_to_wait t a.task ≡ true) × AllWait t others
+AllWait t awaits = AllByRecursion (λ a. has_to_wait t a.task ≡ true) awaits
 
 -- ---- in which order they stand
 
 -- none of them stands before the task in the order of last meals
 abbrev pub NoneBefore : List Diner → Task → List Await → Type 0
-NoneBefore order u [] = Unit {0}
-NoneBefore order u (a ∷ others) = (stands_before order a.task u ≡ false) × NoneBefore order u others
+NoneBefore order u awaits = AllByRecursion (λ a. stands_before order a.task u ≡ false) awaits
 
 -- none stands before an earlier one
 abbrev pub InOrder : List Diner → List Await → Type 0
 InOrder order [] = Unit {0}
 InOrder order (a ∷ others) = NoneBefore order a.task others × InOrder order others
-
--- ---- after a call
-
--- the entries of the begins that wait no longer after it, where it may have ended a wait
-abbrev pub begun_after : Bool → Table → List Await → List Entry
-begun_after ends t awaits = if ends then begun_from t awaits else []
-
--- the table that they leave
-abbrev pub table_after_begins : Bool → Table → List Await → Table
-table_after_begins ends t awaits = if ends then table_begun t awaits else t
-
--- the receipts that they leave
-abbrev pub receipts_after : Bool → Table → List Await → List (Option Receipt) → List (Option Receipt)
-receipts_after ends t awaits receipts = if ends then receipts_begun t awaits receipts else receipts
-
--- those that go on to wait
-abbrev pub waiting_after : Bool → Table → List Await → List Await
-waiting_after ends t awaits = if ends then still_waiting t awaits else awaits

@@ -4,15 +4,16 @@ ghost use Rattle.std.specs.Prelude.{◌≡◌, ◌<◌, ◌≤◌, ◌+◌, ◌*
 ghost use mathlib.Core.List.{IsPrefix};
 ghost use Rattle.dine_streams.specs.Handed.{handed};
 ghost use Rattle.dine_streams.specs.Lines.{begun_line};
+ghost use Rattle.dine_streams.specs.Machines.{Takes};
 ghost use Rattle.dine_table.specs.Calls.{reply_of, table_after_call};
 ghost use Rattle.dine_words.specs.Texts.{entry_text, text_of_lines};
 ghost use Rattle.dine_serve.specs.Answers.{answer_line, answer_of, entry_in};
 ghost use Rattle.dine_serve.specs.Partly.{IsUndone, StopsAtComing, StopsAtDeed, StopsAtReading};
 ghost use Rattle.dine_serve.specs.Receipts.{coming_of};
 ghost use Rattle.dine_serve.specs.Requests.{reading_of};
-ghost use Rattle.dine_serve.specs.Serving.{IsGoing, after_coming, after_deed, after_making, after_reading, answer_done, counted, entries_made, opening, received, said_coming, said_done, said_to, standing_at, HasRoom, has_no_room, is_full, retries_after};
-ghost use Rattle.dine_serve.specs.UsualForms.{TakesFirst};
-ghost use Rattle.dine_serve.specs.Waits.{begun_after};
+ghost use Rattle.dine_serve.specs.Serving.{IsGoing, after_coming, after_deed, after_making, after_reading, answer_done, counted, entries_made, received, said_coming, said_done, said_to, serves, standing_at, HasRoom, has_no_room, is_full};
+ghost use Rattle.dine_serve.specs.UsualForms.{StopsAtFirst};
+ghost use Rattle.dine_serve.specs.Waits.{begun_from};
 
 use crate::answer_texts::{
     push_again, push_cancelled_line, push_fault_line, push_line_and_room, push_listed,
@@ -25,8 +26,8 @@ use crate::usual::usual_at;
 use crate::waiters::Waiters;
 use dine_arbiter::Arbiter;
 use dine_lines::{push_neighbours, push_next, push_state};
-use dine_streams::Line;
-use dine_words::{Call, Entry, Limits, MAX_ENTRY_LINE, Reply, Task};
+use dine_streams::{Line, Machine};
+use dine_words::{Call, Entry, MAX_ENTRY_LINE, Reply, Task};
 use std::alloc::{AllocError, Global};
 use std::marker::Model;
 
@@ -69,23 +70,11 @@ impl Model for Broker {
 }
 
 impl Broker {
-    /// A broker that has heard no line. Nobody is present. Where `passes` are given, those below this number may ask, and
-    /// their requests have numbers; there are at most [`MAX_NUMBERED_PASSES`](crate::MAX_NUMBERED_PASSES), and a greater
-    /// number is taken for it. An error is want of memory.
-    pub(crate) fn new(
-        alloc: Global,
-        limits: Limits,
-        passes: Option<u32>,
-    ) -> Result<Broker, AllocError>
-        ensures { IfOk result (λ broker. broker ≡ opening limits passes) }
-    {
-        let arbiter = Arbiter::new(alloc, limits)?;
-        Broker::going_on(alloc, arbiter, passes)
-    }
-
-    /// A broker that goes on with an arbiter, as [`Broker::new`]: it has heard no line, nobody waits, and no pass has
-    /// asked for anything. All memory is taken here, but for begins that wait and for the lines that are answered. An error
-    /// is want of memory.
+    /// A broker that goes on with an arbiter: it has heard no line, and nobody waits. Where `passes` are given, those below
+    /// this number may ask, and their requests have numbers; there are at most
+    /// [`MAX_NUMBERED_PASSES`](crate::MAX_NUMBERED_PASSES), and a greater number is taken for it. None has asked for anything.
+    ///
+    /// All memory is taken here, but for begins that wait and for the lines that are answered. An error is want of memory.
     pub fn going_on(
         alloc: Global,
         arbiter: Arbiter,
@@ -114,28 +103,26 @@ impl Broker {
         self.has_fault
     }
 
-    /// Whether no more lines are taken: no more lines, or no more joins and finishes, can be counted in 64 bits.
+    // Whether no more lines are taken: no more lines, or no more joins and finishes, can be counted in 64 bits.
     #[inline(always)]
-    pub(crate) fn is_worn_out(&self) -> bool
+    fn is_worn_out(&self) -> bool
         ensures { result ≡ has_no_room self.now }
     {
         u64::MAX <= self.lines || u64::MAX - 1 <= self.arbiter.clock()
     }
 
-    /// Answers the first line of a text that has whole lines alone, and gives the text after it. A request of a usual form
-    /// is read from the front of the text; every other line is cut off first, and read by its words.
-    ///
-    /// An error is want of memory, as in `take_line`.
+    // Answers the first line of a text that has whole lines alone, and gives the text after it. A request of a usual form is
+    // read from the front of the text; every other line is cut off first, and read by its words.
     #[inline(always)]
-    pub(crate) fn take_front<'a>(
-        &mut self,
-        text: &'a [u8],
-        out: &mut Vec<u8>,
-    ) -> Result<&'a [u8], AllocError>
+    fn take_front<'a>(&mut self, text: &'a [u8], out: &mut Vec<u8>) -> Result<&'a [u8], AllocError>
         requires room { HasRoom self.old }
         requires some { 0 < length text.now }
         requires whole { begun_line [] text.now ≡ [] }
-        ensures { TakesFirst result self.old self.new text.now out.old.items out.new.items }
+        ensures taken { IfOk result (λ rest. Takes serves self.old self.new
+            text.now rest.now out.old.items out.new.items) }
+        ensures shorter { IfOk result (λ rest. length rest.now < length text.now) }
+        ensures stops { OnErr result (StopsAtFirst self.old self.new
+            text.now out.old.items out.new.items) }
     {
         let Some((request, rest)) = usual_at(text, self.is_numbered) else {
             let Some((line, rest)) = Line::cut(text) else {
@@ -150,13 +137,13 @@ impl Broker {
         Ok(rest)
     }
 
-    /// Answers a line: what it asks for is done, and the lines that answer it are appended to `out`.
-    ///
-    /// An error is want of memory. The line is counted then, and a part of its answer may have been appended, behind what
-    /// stood there before. If there is no memory for the lines of a call and of the begins after it, nothing is done and
-    /// nothing is appended. A begin that was to be taken back is.
+    // Answers a line: what it asks for is done, and the lines that answer it are appended to `out`.
+    //
+    // An error is want of memory. The line is counted then, and a part of its answer may have been appended, behind what
+    // stood there before. If there is no memory for the lines of a call and of the begins after it, nothing is done and
+    // nothing is appended. A begin that was to be taken back is.
     #[inline(never)]
-    pub(crate) fn take_line(&mut self, line: Line, out: &mut Vec<u8>) -> Result<(), AllocError>
+    fn take_line(&mut self, line: Line, out: &mut Vec<u8>) -> Result<(), AllocError>
         requires { HasRoom self.old }
         ensures after { OnOk result
             (self.new ≡ after_reading (counted self.old)
@@ -174,11 +161,8 @@ impl Broker {
         }
     }
 
-    /// Answers a last line that has no line feed: it isn't carried out.
-    ///
-    /// An error is want of memory. The line and its fault are counted then, and a part of its answer may have been appended,
-    /// behind what stood there before.
-    pub(crate) fn take_torn(&mut self, out: &mut Vec<u8>) -> Result<(), AllocError>
+    // Answers a last line that has no line feed: it may be torn, so it isn't carried out.
+    fn take_torn(&mut self, out: &mut Vec<u8>) -> Result<(), AllocError>
         requires { HasRoom self.old }
         ensures after { self.new ≡ after_reading (counted self.old) (Err LineFault.Torn) }
         ensures said { OnOk result (out.new.items ≡ out.old.items
@@ -318,8 +302,8 @@ impl Broker {
             ≤ vec_capacity out.old }
         ensures after { self.new ≡ after_making self.old call }
         ensures said { out.new.items ≡ out.old.items
-            ++ text_of_lines (map entry_text (begun_after (retries_after self.old call)
-            (table_after_call self.old.table call) self.old.awaits)) }
+            ++ text_of_lines (map entry_text
+            (begun_from (table_after_call self.old.table call) self.old.awaits)) }
     {
         self.arbiter.apply_answered(call, reply);
         if self.waiters.len() == 0 || !call.may_end_waits(reply) {
@@ -422,5 +406,38 @@ impl Broker {
     {
         self.has_fault = true;
         push_fault_line(out, self.lines, fault)
+    }
+}
+
+impl Machine for Broker {
+    ghost rules = { serves };
+
+    fn open(&self, out: &mut Vec<u8>) -> Result<(), AllocError> {
+        self.arbiter.limits().write_header_line_to(out)
+    }
+
+    #[inline(always)]
+    fn take<'a>(&mut self, text: &'a [u8], out: &mut Vec<u8>) -> Result<&'a [u8], AllocError> {
+        if self.is_worn_out() {
+            return Err(AllocError);
+        }
+        let len = out[..].len();
+        match self.take_front(text, out) {
+            Ok(rest) => Ok(rest),
+            Err(wanting) => {
+                out.truncate(len);
+                Err(wanting)
+            }
+        }
+    }
+
+    fn take_last(&mut self, begun: &[u8], out: &mut Vec<u8>) -> Result<(), AllocError> {
+        if begun.is_empty() {
+            return Ok(());
+        }
+        if self.is_worn_out() {
+            return Err(AllocError);
+        }
+        self.take_torn(out)
     }
 }

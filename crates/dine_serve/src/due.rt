@@ -1,6 +1,5 @@
-//! Which begin that waits is due after a call: the first, in the order of last meals, that has to wait no longer. The end of
-//! a meal makes begins of its task's neighbours due, a withdrawal those and its task's own, and a separation those of its
-//! two tasks.
+//! Which begin that waits is due after a call: the first, in the order of last meals, that has to wait no longer. It is that
+//! of a neighbour of a task whose meal or hunger ended, of that task itself, or of one of two that are separated.
 
 ghost use Rattle.std.specs.Prelude.{◌≡◌, ℕ, IfSome, true};
 ghost use Rattle.dine_table.specs.Table.{are_in_conflict};

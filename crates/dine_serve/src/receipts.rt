@@ -53,13 +53,11 @@ pub fn no_receipts(alloc: Global, passes: Option<u32>) -> Result<Vec<Option<Rece
 pub fn coming_of(receipts: &[Option<Receipt>], pass: u32, number: u64) -> Coming
     ensures { result ≡ coming_of receipts.now pass number }
 {
-    let Some(last) = receipts.get(pass as usize) else {
-        return Coming::Foreign;
-    };
-    match last {
-        Some(last) if last.number == number => Coming::Again(last.answer),
-        Some(last) if number < last.number => Coming::Stale,
-        _ => Coming::First,
+    match receipts.get(pass as usize) {
+        None => Coming::Foreign,
+        Some(Some(last)) if last.number == number => Coming::Again(last.answer),
+        Some(Some(last)) if number < last.number => Coming::Stale,
+        Some(_) => Coming::First,
     }
 }
 

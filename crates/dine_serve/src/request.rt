@@ -1,6 +1,6 @@
 //! What a line asks for.
 
-ghost use Rattle.std.specs.Prelude.{◌≡◌, ◌-◌, ◌^◌, codes};
+ghost use Rattle.std.specs.Prelude.{◌≡◌};
 ghost use Rattle.dine_streams.specs.Handed.{handed};
 ghost use Rattle.dine_words.specs.Reading.{Finds, task_at, whole, word_at};
 ghost use Rattle.dine_serve.specs.Requests.{ask_request, deed_of, numbered_by, order_at, pass_at, question_of, reading_of, request_of, spaced_at, wait_of};
@@ -59,10 +59,7 @@ pub fn read_line(line: Line, is_numbered: bool) -> Result<Option<Request>, LineF
     if is_passed_over(bytes) {
         return Ok(None);
     }
-    match read_request(bytes, is_numbered) {
-        Some(request) => Ok(Some(request)),
-        None => Err(LineFault::Words),
-    }
+    Ok(Some(read_request(bytes, is_numbered).ok_or(LineFault::Words)?))
 }
 
 // The request that a line is.
@@ -91,19 +88,7 @@ pub fn spaced_at(bytes: &[u8], most: u64) -> Option<(u64, &[u8])>
     ensures { Finds (λ found. (found.0, found.1.now)) result (spaced_at most bytes.now) }
 {
     let (number, rest) = number_at(bytes, most)?;
-    let rest = after_space(rest)?;
-    Some((number, rest))
-}
-
-// What comes after a space.
-#[inline(always)]
-fn after_space(bytes: &[u8]) -> Option<&[u8]>
-    ensures { Finds (λ rest. rest.now) result (word_at (codes " ") bytes.now) }
-{
-    match bytes {
-        [b' ', rest @ ..] => Some(rest),
-        _ => None,
-    }
+    Some((number, after_word(rest, b" ")?))
 }
 
 // What a pass wants done, as a request.
@@ -136,12 +121,10 @@ fn read_wait(bytes: &[u8]) -> Option<Deed>
     ensures { result ≡ wait_of bytes.now }
 {
     if let Some(rest) = after_word(bytes, b"await ") {
-        let task = whole_task(rest)?;
-        return Some(Deed::Await(task));
+        return Some(Deed::Await(whole_task(rest)?));
     }
     let rest = after_word(bytes, b"cancel ")?;
-    let task = whole_task(rest)?;
-    Some(Deed::Cancel(task))
+    Some(Deed::Cancel(whole_task(rest)?))
 }
 
 // The question that a line is.
@@ -150,16 +133,13 @@ fn read_question(line: &[u8]) -> Option<Question>
     ensures { result ≡ question_of line.now }
 {
     if let Some(rest) = after_word(line, b"state ") {
-        let task = whole_task(rest)?;
-        return Some(Question::State(task));
+        return Some(Question::State(whole_task(rest)?));
     }
     if let Some(rest) = after_word(line, b"neighbours ") {
-        let task = whole_task(rest)?;
-        return Some(Question::Neighbours(task));
+        return Some(Question::Neighbours(whole_task(rest)?));
     }
     if let Some(rest) = after_word(line, b"blockers ") {
-        let task = whole_task(rest)?;
-        return Some(Question::Blockers(task));
+        return Some(Question::Blockers(whole_task(rest)?));
     }
     match line {
         b"next" => Some(Question::Next),

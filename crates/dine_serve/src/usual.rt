@@ -1,6 +1,5 @@
-//! Requests of the forms that nearly all have, with one space between words, read at the front of a text with no look for
-//! the end of their line: the step of a meal, a begin that is to wait or is taken back, and the task with the line feed
-//! behind it.
+//! Requests of the forms that nearly all have, read at the front of a text with no look for the end of their line: a step of
+//! a meal, a begin that is to wait, or one that is taken back.
 
 ghost use Rattle.std.specs.Prelude.{IfSome};
 ghost use Rattle.dine_serve.specs.UsualForms.{Asks, AsksDeed};

@@ -27,7 +27,7 @@ nothing-seen : (line : List ℕ) → 4097 ≤ length line → seen_of line ≡ N
 nothing-seen line long = let more : 4096 < length line = omega arith in let is : nat_lt 4096 (length line) ≡ true = grind (arith, nat_tests) in rw is refl
 
 -- a line is seen the same by what is kept of it
-seen-kept : (line : List ℕ) → seen_of (kept_of line) ≡ seen_of line
+pub seen-kept : (line : List ℕ) → seen_of (kept_of line) ≡ seen_of line
 seen-kept line = by (cases_lt (length line) 4097)
   where
     by : (length line < 4097) ⊎ (4097 ≤ length line) → seen_of (kept_of line) ≡ seen_of line

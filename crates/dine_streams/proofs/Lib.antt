@@ -9,4 +9,9 @@ pub mod ReadOut
 pub mod Progress
 pub mod Ends
 pub mod Short
+mod Printing
+mod Outcomes
+mod Listening
+mod Takings
+mod OnceReads
 pub mod CallerLemmas

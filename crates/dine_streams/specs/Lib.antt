@@ -9,3 +9,5 @@ pub mod GivingUp
 pub mod Marks
 pub mod Written
 pub mod Reported
+pub mod Machines
+pub mod Runs

@@ -163,7 +163,7 @@ fn read_on<R: Source>(
 }
 
 // How long the whole lines at the front of a text are.
-fn whole_len(text: &[u8]) -> usize
+pub(crate) fn whole_len(text: &[u8]) -> usize
     ensures bound { result ≤ length text.now }
     ensures lines { ended_lines [] (take result text.now) ≡ ended_lines [] text.now }
     ensures ended { begun_line [] (take result text.now) ≡ [] }

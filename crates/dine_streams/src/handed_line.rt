@@ -1,6 +1,6 @@
 //! The lines of a text, as they are handed out.
 
-ghost use Rattle.std.specs.Prelude.{◌≡◌, ◌∷◌, ◌<◌, [], length, IfNone, IfSome};
+ghost use Rattle.std.specs.Prelude.{◌≡◌, ◌∷◌, ◌++◌, ◌<◌, ℕ, List, [], length, IfNone, IfSome};
 ghost use Rattle.dine_streams.specs.Lines.{begun_line, ended_lines, seen_lines};
 
 use dine_words::MAX_LINE;
@@ -37,6 +37,8 @@ impl<'a> Line<'a> {
         ensures none { IfNone result (ended_lines [] text.now ≡ []) }
         ensures some { IfSome result (λ cut.
             seen_lines [] text.now ≡ handed cut.0 ∷ seen_lines [] cut.1.now) }
+        ensures front { IfSome result (λ cut.
+            (front : List ℕ) × (text.now ≡ front ++ cut.1.now)) }
         ensures begun { IfSome result (λ cut.
             begun_line [] cut.1.now ≡ begun_line [] text.now) }
         ensures shorter { IfSome result (λ cut. length cut.1.now < length text.now) }

@@ -4,15 +4,22 @@
 #![tactic(auto)]
 
 mod buffer;
+mod driver;
 mod ended;
 mod handed_line;
 mod input;
+mod machine;
+mod once_read;
+mod steps;
 mod whole;
 mod without_memory;
 
 pub use buffer::LineBuffer;
+pub use driver::{go_on, run};
 pub use ended::{CliFault, Ended, end_of, finish};
 pub use handed_line::Line;
 pub use input::{CHUNK, InputBuffer, InputFault, MAX_INPUT};
+pub use machine::Machine;
+pub use once_read::run_once_read;
 pub use whole::{LARGE_WRITE, read_whole, write_if_enough, write_whole};
 pub use without_memory::{fault_without_memory, read_out};

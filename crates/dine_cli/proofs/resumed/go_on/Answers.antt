@@ -1,4 +1,4 @@
-use Rattle.dine_script.proofs.CallerLemmas.{text_marked}
+use Rattle.dine_script.proofs.CallerLemmas.{both_known, text_marked}
 use Rattle.dine_cli.proofs.Resuming.{version_told}
 use Rattle.dine_cli.proofs.resumed.go_on.Goals as goal
 
@@ -17,3 +17,17 @@ returns-in-One-clause-marks g c =
       read_unmarked = marks.read_unmarked;
       write_unmarked = marks.write_unmarked;
     }
+
+pub returns-after-replayed-clause-ok : goal.returns-after-replayed-clause-ok
+returns-after-replayed-clause-ok g c =
+    let served = c.serve_on.ensures in
+    rw c.in-Two.is (both_known _ _ _ c.serve_on.result served.output served.ended)
+
+pub returns-after-replayed-clause-read : goal.returns-after-replayed-clause-read
+returns-after-replayed-clause-read g c = λ failed. rw c.in-Two.is (c.serve_on.ensures.at_each_read failed)
+
+pub returns-after-replayed-clause-memory : goal.returns-after-replayed-clause-memory
+returns-after-replayed-clause-memory g c = λ failed. rw c.in-Two.is (c.serve_on.ensures.memory failed)
+
+pub returns-after-replayed-clause-write : goal.returns-after-replayed-clause-write
+returns-after-replayed-clause-write g c = λ failed. rw c.in-Two.is (c.serve_on.ensures.write failed)

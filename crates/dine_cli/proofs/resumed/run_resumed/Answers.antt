@@ -6,7 +6,7 @@ use Rattle.dine_replay.specs.declared.audit_answer.AuditFault.{AuditFault}
 use Rattle.dine_replay.specs.declared.audit_answer.AuditFault.TheVariants.{Read}
 use Rattle.dine_replay.specs.declared.audit_answer.Checked.{Checked}
 use Rattle.dine_replay.specs.Replaying.{IsRefusal}
-use Rattle.dine_serve.proofs.CallerLemmas.{for_all_known, of_known}
+use Rattle.dine_streams.proofs.CallerLemmas.{for_all_known, of_known}
 use Rattle.dine_cli.specs.Resumed.{IsGoneOnAtRead, IsGoneOnInLines, IsGoneOnInPart, IsResumedInPart}
 use Rattle.dine_cli.specs.Resumed.Found.{Legal, Refused}
 use Rattle.dine_cli.proofs.Resuming.{left-behind, left-behind_ok, left-behind_or, refused_ok, unmarked, in_any_case}

@@ -1,5 +1,5 @@
-use Rattle.dine_serve.proofs.Words.{[], ◌∷◌, ◌++◌, codes, sym, ap, ◌∙◌, append_assoc, append-nil, task_if}
-use Rattle.dine_serve.proofs.Answering.{left_ok, on_ok}
+use Rattle.dine_serve.proofs.Words.{[], ◌∷◌, ◌++◌, codes, sym, ap, ◌∙◌, append_assoc, append-nil, on_ok, task_if}
+use Rattle.dine_serve.proofs.Answering.{left_ok}
 use Rattle.dine_serve.proofs.answer_texts.push_cancelled_line.Goals as goal
 
 pub returns-clause-ok : goal.returns-clause-ok

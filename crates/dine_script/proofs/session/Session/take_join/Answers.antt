@@ -3,8 +3,7 @@ use Rattle.dine_lines.specs.Names.{task_named}
 use Rattle.dine_lines.specs.declared.line_fault.LineFault.TheVariants as fault
 use Rattle.dine_script.specs.declared.command.Command.TheVariants as command
 use Rattle.dine_script.specs.Commands.{ReadsFirst}
-use Rattle.dine_script.specs.Printed.{printed_by}
-use Rattle.dine_script.specs.Script.{after_command}
+use Rattle.dine_script.specs.Script.{after_command, printed_by}
 use Rattle.dine_words.specs.Texts.{text_of_lines}
 use Rattle.dine_script.proofs.Fronts.{takes-up-to}
 use Rattle.dine_script.proofs.ShortLines.{reads-bound}
@@ -22,6 +21,6 @@ pub returns-in-Ok-true : goal.returns-in-Ok-true
 returns-in-Ok-true c =
     let free : not (is_some (task_named c.args.self.now.names c.args.name)) ≡ true = search rules in
     let stands : c.count_line.new.self ≡ after_command c.args.self.now (command.Join c.args.name) = search rules in
-    let output : c.join.new.out.items ≡ c.args.out.now.items ++ text_of_lines (printed_by c.args.print c.args.self.now.table (command.Join c.args.name)) = search rules in
-    takes-up-to c.args.print c.args.self.now c.count_line.new.self c.args.text.now c.args.rest.now c.args.out.now.items c.join.new.out.items 0
-    (takes-join c.args.print c.args.self.now c.count_line.new.self c.args.name c.args.text.now c.args.rest.now c.args.out.now.items c.join.new.out.items c.requires.name free c.requires.begins stands output)
+    let output : c.join.new.out.items ≡ c.args.out.now.items ++ text_of_lines (printed_by c.args.print.now c.args.self.now.table (command.Join c.args.name)) = search rules in
+    takes-up-to c.args.print.now c.args.self.now c.count_line.new.self c.args.text.now c.args.rest.now c.args.out.now.items c.join.new.out.items false
+    (takes-join c.args.print.now c.args.self.now c.count_line.new.self c.args.name c.args.text.now c.args.rest.now c.args.out.now.items c.join.new.out.items c.requires.name free c.requires.begins stands output)

@@ -10,4 +10,4 @@ returns-in-Some c =
     let asked = usual.OnTwo pair.call pair.first pair.second in
     let made = c.in_ok-make_pair.ensures.ok in
     let begins = subst (λ s. BeginsUsual s.names asked c.args.text.now pair.rest.now) c.self.view_is c.in-Some.ensures in
-    takes-usual c.args.print c.args.self.now c.count_line.new.self asked c.args.text.now pair.rest.now c.args.out.now.items c.make_pair.new.out.items begins (c.count_line.ensures ∙ made.after) made.output
+    takes-usual c.args.print.now c.args.self.now c.count_line.new.self asked c.args.text.now pair.rest.now c.args.out.now.items c.make_pair.new.out.items begins (c.count_line.ensures ∙ made.after) made.output

@@ -1,4 +1,4 @@
-use Rattle.std.proofs.Common.{codes, subst}
+use Rattle.std.proofs.Common.{false, codes, subst}
 use Rattle.dine_lines.specs.UsualLines.{BeginsOne}
 use Rattle.dine_script.proofs.Fronts.{takes-up-to}
 use Rattle.dine_script.proofs.ShortLines.{reads-free-state}
@@ -10,8 +10,8 @@ returns-in-Ok c =
     let cut = c.in-Some in
     let found = subst (λ s. BeginsOne s.names (codes "state") cut.found c.args.text.now cut.rest.now) c.self.view_is cut.ensures in
     let begins = subst (λ t. BeginsOne c.args.self.now.names (codes "state") t c.args.text.now cut.rest.now) c.in-Some-found.is found in
-    takes-up-to c.args.print c.args.self.now c.count_line.new.self c.args.text.now cut.rest.now c.args.out.now.items c.tell_state.new.out.items 0
-    (takes-state c.args.print c.args.self.now c.count_line.new.self c.in-Some-found.task c.args.text.now cut.rest.now c.args.out.now.items c.tell_state.new.out.items begins c.count_line.ensures c.in-Ok.ensures.ok)
+    takes-up-to c.args.print.now c.args.self.now c.count_line.new.self c.args.text.now cut.rest.now c.args.out.now.items c.tell_state.new.out.items false
+    (takes-state c.args.print.now c.args.self.now c.count_line.new.self c.in-Some-found.task c.args.text.now cut.rest.now c.args.out.now.items c.tell_state.new.out.items begins c.count_line.ensures c.in-Ok.ensures.ok)
 
 pub tell_fault-requires : goal.tell_fault-requires
 tell_fault-requires c =

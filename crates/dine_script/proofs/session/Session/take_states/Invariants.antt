@@ -1,4 +1,4 @@
-use Rattle.std.proofs.Common.{◌≡◌, ◌≤◌, ◌+◌, ◌-◌, drop, length}
+use Rattle.std.proofs.Common.{◌≡◌, ◌≤◌, ◌-◌, drop, false, length}
 use Rattle.dine_lines.specs.Lines.{lines_of}
 use Rattle.dine_script.specs.Printed.{TakesSome}
 use Rattle.dine_script.proofs.session.Session.take_states.Given as goal
@@ -7,10 +7,9 @@ use Rattle.dine_script.proofs.session.Session.take_states.Given as goal
 abbrev pub invariant-lines : goal.invariant-lines
 invariant-lines l = record {
   same : l.self ≡ l.initial.self;
-  takes : TakesSome l.print l.initial.self l.self (lines_of l.fn.text) (lines_of l.rest) l.initial.out.items l.out.items 0;
+  takes : TakesSome l.print l.initial.self l.self (lines_of l.fn.text) (lines_of l.rest) l.initial.out.items l.out.items false;
   left : l.rest ≡ drop (length l.fn.text - length l.rest) l.fn.text;
   short : length l.rest ≤ length l.fn.text;
-  clock : l.self.table.clock + length l.rest ≤ l.initial.self.table.clock + length l.fn.text;
   kept : length l.fn.text ≤ length l.rest → l.out.items ≡ l.initial.out.items;
 }
 

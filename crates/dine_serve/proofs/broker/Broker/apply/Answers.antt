@@ -1,6 +1,6 @@
-use Rattle.dine_serve.proofs.Words.{◌≡◌, ◌≤◌, ◌+◌, ◌*◌, ◌⊎◌, true, false, ◌++◌, length, map, inl, inr, sym, ap, subst, ◌∙◌, entry_text, text_of_lines, vec_capacity, vec_len, may_end_waits, Table, reply_of, table_after_call, IsRetried, IsKept, in_order, after_making, retries_after, AllWait, begun_after, begun_from, receipts_begun, still_waiting, table_begun}
+use Rattle.dine_serve.proofs.Words.{◌≡◌, ◌≤◌, ◌+◌, ◌*◌, ◌⊎◌, false, ◌++◌, length, map, inl, inr, sym, ap, subst, ◌∙◌, entry_text, text_of_lines, vec_capacity, vec_len, may_end_waits, Table, reply_of, table_after_call, IsRetried, IsKept, in_order, after_making, AllWait, begun_from, receipts_begun, still_waiting, table_begun}
 use Rattle.dine_serve.specs.Serving.{Broker as Standing}
-use Rattle.dine_serve.proofs.Keeping.{called-rests, ends-retries, made-all, said-all}
+use Rattle.dine_serve.proofs.Keeping.{called-rests, made-all}
 use Rattle.dine_serve.proofs.Retrying.{called-order, kept-called, retried-called}
 use Rattle.dine_serve.proofs.Staying.{called-resting, nothing-said}
 use Rattle.dine_serve.proofs.broker.Broker.apply.Goals as goal
@@ -57,8 +57,8 @@ returns-then-len-eq0-clause-said c =
       | then-len-eq0-via-then-len-eq0 w ↦ inl (sym c.len.ensures ∙ w.if-len-eq0.true)
       | then-len-eq0-via-else-len-eq0+then-not-may_end_waits w ↦ inr (sym w.may_end_waits.ensures ∙ w.if-not-may_end_waits.true)
     ]) in
-    subst (λ (b : Standing). c.args.out.now.items ≡ c.args.out.now.items ++ text_of_lines (map entry_text (begun_after (retries_after b c.args.call) (table_after_call b.table c.args.call) b.awaits))) c.self.view_is
-    (nothing-said (retries_after s c.args.call) (record s { table = table_after_call s.table c.args.call }) c.args.out.now.items (λ tries. stays))
+    subst (λ (b : Standing). c.args.out.now.items ≡ c.args.out.now.items ++ text_of_lines (map entry_text (begun_from (table_after_call b.table c.args.call) b.awaits))) c.self.view_is
+    (nothing-said (table_after_call s.table c.args.call) s.awaits c.args.out.now.items stays)
 
 -- ---- begins are tried again
 
@@ -75,12 +75,11 @@ pub returns-clause-after : goal.returns-clause-after
 returns-clause-after c =
     let a = (goal.at.returns-clause-after c).After-len in
     let s = stood a in
-    let ends : retries_after s c.args.call ≡ true = ends-retries c.args.call (reply_of s.table c.args.call) (ap (may_end_waits c.args.call) (sym (reply a)) ∙ sym c.may_end_waits.ensures ∙ c.if-not-may_end_waits.false) in
     let of = c.begin_waiting.ensures in
     let made = c.apply_answered.ensures.table in
     let all = order a in
     let now = c.apply_answered.new.self.table in
-    made-all s c.args.call ends _ _ _
+    made-all s c.args.call _ _ _
     (of.table ∙ ap (table_begun now) all ∙ ap (λ t. table_begun t s.awaits) made)
     (of.left ∙ ap (still_waiting now) all ∙ ap (λ t. still_waiting t s.awaits) made)
     (of.receipts ∙ ap (λ l. receipts_begun now l s.receipts) all ∙ ap (λ t. receipts_begun t s.awaits s.receipts) made)
@@ -90,10 +89,8 @@ pub returns-clause-said : goal.returns-clause-said
 returns-clause-said c =
     let a = (goal.at.returns-clause-said c).After-len in
     let s = stood a in
-    let ends : retries_after s c.args.call ≡ true = ends-retries c.args.call (reply_of s.table c.args.call) (ap (may_end_waits c.args.call) (sym (reply a)) ∙ sym c.may_end_waits.ensures ∙ c.if-not-may_end_waits.false) in
     let before = c.args.out.now.items in
-    subst (λ (b : Standing). c.begin_waiting.new.out.items ≡ before ++ text_of_lines (map entry_text (begun_after (retries_after b c.args.call) (table_after_call b.table c.args.call) b.awaits))) c.self.view_is
-    (said-all s c.args.call ends before c.begin_waiting.new.out.items
+    subst (λ (b : Standing). c.begin_waiting.new.out.items ≡ before ++ text_of_lines (map entry_text (begun_from (table_after_call b.table c.args.call) b.awaits))) c.self.view_is
     (c.begin_waiting.ensures.said
     ∙ ap (λ l. before ++ text_of_lines (map entry_text (begun_from c.apply_answered.new.self.table l))) (order a)
-    ∙ ap (λ t. before ++ text_of_lines (map entry_text (begun_from t s.awaits))) c.apply_answered.ensures.table))
+    ∙ ap (λ t. before ++ text_of_lines (map entry_text (begun_from t s.awaits))) c.apply_answered.ensures.table)
