@@ -1,25 +1,21 @@
 -- A request that was carried out comes again with the answer that it got.
-use Rattle.dine_serve.proofs.Words.{◌≡◌, ℕ, ◌<◌, nat_lt, eq-eqb, false, List, [], ◌++◌, codes, length, map, take, slice_get, Some, None, inl, inr, refl, ap, ◌∙◌, subst, arith, cases_Bool, nat_tests, RequestAnswer, Made, Cancelled, Waits, First, Again, Deed, Make, Cancel, has_to_wait, again_lines, entry_in, coming_at, coming_of, Broker, after_coming, after_deed, answer_done, is_full, received, said_done, is_noted}
+use Rattle.dine_serve.proofs.Words.{◌≡◌, ℕ, zero, suc, eq-eqb, true, false, List, [], ◌∷◌, ◌++◌, codes, length, map, take, slice_set, Option, Some, None, inl, inr, refl, sym, ap, ◌∙◌, subst, cases_Bool, RequestAnswer, Made, Cancelled, Waits, First, Again, Receipt, Deed, Make, Cancel, has_to_wait, again_lines, entry_in, coming_of, is_first, Broker, after_coming, after_deed, answer_done, is_full, received, said_done, is_noted}
 use Rattle.dine_serve.specs.declared.request.Deed.TheVariants.{Await as await}
 use Rattle.dine_words.specs.declared.call.Call.TheVariants as call
-use Rattle.dine_serve.proofs.Once.{first-some, put-got, same-done}
+use Rattle.dine_serve.proofs.Once.{below-itself, same-done}
 
--- no number is below itself
-not_below : (n : ℕ) → nat_lt n n ≡ false
-not_below n = elim (cases_Bool (nat_lt n n)) [
-  | inl e ↦ absurd (let below : n < n = grind (arith, nat_tests, e) in omega (arith, below))
-  | inr e ↦ e
-]
+-- once a request that came for the first time has its receipt, it comes again with that answer
+got : (receipts : List (Option Receipt)) (p number : ℕ) (answer : RequestAnswer) → is_first (coming_of receipts p number) ≡ true → coming_of (slice_set receipts p (Some record { number = number; answer = answer })) p number ≡ Again answer
+got [] p number answer first = absurd (let k : false ≡ true = first in cc)
+got (x ∷ rs) zero number answer first = rw (below-itself number, eq-eqb number number refl) refl
+got (x ∷ rs) (suc p) number answer first = got rs p number answer first
 
 -- a request that was carried out comes again with its answer
 pub again-known : (s : Broker) (pass number : ℕ) (deed : Deed) (answer : RequestAnswer) → coming_of s.receipts pass number ≡ First → answer_done s pass deed ≡ Some answer → coming_of (after_coming s pass number deed First).receipts pass number ≡ Again answer
 again-known s pass number deed answer first is =
     let left = after_deed s pass (Some number) deed in
-    let (x, at) = first-some (slice_get s.receipts pass) number first in
-    let got = put-got left.receipts pass record { number = number; answer = answer } x (same-done s pass (Some number) deed pass ∙ at) in
     ap (λ o. coming_of (received pass number o left).receipts pass number) is
-    ∙ ap (λ o. coming_at o number) got
-    ∙ rw (not_below number, eq-eqb number number refl) refl
+    ∙ got left.receipts pass number answer (same-done s pass (Some number) deed pass number ∙ ap is_first first)
 
 -- ---- the line is the same
 

@@ -1,6 +1,5 @@
 -- Requests of the usual forms are what their whole lines ask for.
-use Rattle.dine_serve.proofs.Words.{◌≡◌, ℕ, ◌==◌, ◌-◌, Bool, ◌^◌, ◌<◌, ◌≤◌, true, false, ◌&&◌, nat_le, nat_lt, List, [], ◌∷◌, ◌++◌, length, map, take, drop, codes, decimal, Option, Some, None, Ok, inl, inr, refl, sym, ap, ◌∙◌, subst, append_assoc, append-nil, length-append, length-drop, arith, lit≤, and_parts, cases_Bool, nat_tests, take-append_seam, take_all, is_ascii_digit, CallOnOne, Task, call_about_one, opening_on_one, begins_with_number, digits_after, number_at, task_at, word_at, FitsTask, task_text, text_of_lines, bind-Some, number_at-Some, number_at-decimal, task_at-Some, task_at-text, word_at-Some, begun_line, ended_lines, seen_lines, seen_of, IsShort, begun-on, begun-pieces, ended-pieces, short-both, short-decimal, short-more, short-task, is_blank, is_passed_over, pieces_of, words_of, Deed, Make, Cancel, Request, Numbered, Order, StopsAtReading, deed_of, numbered_by, numbered_request, order_at, pass_at, reading_of, request_by, request_of, spaced_at, Broker, after_reading, counted, said_to, serves, Asks, AsksDeed, StopsAtFirst, Takes, takes-line}
-use Rattle.dine_serve.proofs.Lined.{reading_begins}
+use Rattle.dine_serve.proofs.Words.{◌≡◌, ℕ, ◌==◌, ◌-◌, Bool, ◌^◌, ◌<◌, ◌≤◌, true, false, ◌&&◌, nat_le, nat_lt, List, [], ◌∷◌, ◌++◌, length, map, take, drop, codes, decimal, Option, Some, None, Ok, inl, inr, refl, sym, ap, ◌∙◌, subst, append_assoc, append-nil, length-append, length-drop, arith, lit≤, and_parts, cases_Bool, nat_tests, take-append_seam, take_all, is_ascii_digit, CallOnOne, Task, call_about_one, opening_on_one, begins_with_number, digits_after, number_at, task_at, word_at, FitsTask, task_text, text_of_lines, bind-Some, number_at-Some, number_at-decimal, task_at-Some, task_at-text, word_at-Some, begun_line, ended_lines, seen_lines, seen_of, IsShort, begun-on, begun-pieces, ended-pieces, short-both, short-decimal, short-more, short-task, is_blank, is_passed_over, pieces_of, words_of, Deed, Make, Cancel, Request, Numbered, Order, deed_of, numbered_by, numbered_request, order_at, pass_at, reading_of, request_by, request_of, spaced_at, Broker, after_reading, counted, said_to, serves, Asks, AsksDeed, Takes, takes-line}
 use Rattle.dine_words.specs.declared.call_word.CallOnOne.TheVariants as one
 use Rattle.dine_serve.specs.declared.request.Deed.TheVariants.{Await as await}
 
@@ -162,23 +161,6 @@ usual-answers {s = s} {s' = s'} {request = request} {text = text} {rest = rest} 
     takes-line serves s s' text rest before after (Some asked.line) asked.first
     (leaves ∙ ap (λ b. after_reading b (Ok (Some request))) is_counted ∙ ap (after_reading (counted s)) (sym asked.reading))
     (said ∙ ap (λ b. before ++ text_of_lines (said_to b (Ok (Some request)))) is_counted ∙ ap (λ r. before ++ text_of_lines (said_to (counted s) r)) (sym asked.reading))
-
--- and where memory is wanting on the way to its answer, it is wanting on the way to that of the line
-pub usual-stops : {s t s' : Broker} {request : Request} {text rest before after : List ℕ} → Asks s.is_numbered request text rest → t ≡ counted s → StopsAtReading t s' (Ok (Some request)) before after → StopsAtFirst s s' text before after
-usual-stops {s = s} {s' = s'} {request = request} {rest = rest} {before = before} {after = after} asked is_counted stops = record {
-  line = Some asked.line;
-  rest = rest;
-  first = asked.first;
-  stops =
-      subst (λ r. StopsAtReading (counted s) s' r before after) (sym asked.reading)
-      (subst (λ b. StopsAtReading b s' (Ok (Some request)) before after) is_counted stops);
-}
-
--- what stood before still stands then, so it is what is left where the rest is cut off
-pub stops-cut : (s s' : Broker) (text before after : List ℕ) → StopsAtFirst s s' text before after → take (length before) after ≡ before
-stops-cut s s' text before after h =
-    let (more, is) = reading_begins (counted s) s' (reading_of s.is_numbered h.line) before after h.stops in
-    ap (take (length before)) (sym is) ∙ take-append_seam before more
 
 -- ---- a text of whole lines
 

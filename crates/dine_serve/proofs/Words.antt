@@ -15,7 +15,7 @@ pub use Rattle.dine_serve.specs.Receipts.{coming_at, coming_of, has_number, no_r
 pub use Rattle.dine_serve.specs.Repeats.{is_again, is_carried_out, is_first, is_no_repeat, is_repeat, times_carried_out, without_repeats}
 pub use Rattle.dine_serve.specs.Requests.{deed_of, numbered_by, numbered_request, order_at, pass_at, reading_of, request_by, request_of, spaced_at}
 pub use Rattle.dine_serve.specs.Serving.{Broker, HasRoom, after_coming, after_deed, after_making, after_reading, answer_done, counted, entries_by, entries_coming, entries_done, entries_from, entries_made, has_no_room, history_of, is_full, opening, received, said_coming, said_done, said_from, said_of_begun, said_to, said_to_input, served_lines, standing_at, standing_from, serves}
-pub use Rattle.dine_serve.specs.UsualForms.{Asks, AsksDeed, StopsAtFirst}
+pub use Rattle.dine_serve.specs.UsualForms.{Asks, AsksDeed}
 pub use Rattle.dine_serve.specs.Waits.{AllWait, InOrder, NoneBefore, awaits_of, begins_of, begun_from, is_await_of, is_noted, noted, receipts_begun, still_waiting, table_begun, taken_back}
 pub use Rattle.dine_streams.proofs.CallerLemmas.{IsShort, begun-on, begun-pieces, ended-pieces, short-both, short-decimal, short-more, short-opening, short-task, on_ok, ran-ends, ran-gave_up, ran-well, takes-line}
 pub use Rattle.dine_streams.specs.Handed.{handed}

@@ -1,9 +1,7 @@
--- Requests of the forms that nearly all have, at the front of a text, and what it is to stop at the first line of one.
+-- Requests of the forms that nearly all have, at the front of a text.
 use Rattle.std.specs.Prelude.{◌≡◌, ℕ, ◌<◌, ◌≤◌, Bool, List, [], ◌∷◌, ◌++◌, length, Option, Some, Ok}
 use Rattle.dine_serve.specs.Words.{HasLines, ended_lines, Deed, Request}
-use Rattle.dine_serve.specs.Partly.{StopsAtReading}
 use Rattle.dine_serve.specs.Requests.{deed_of, reading_of}
-use Rattle.dine_serve.specs.Serving.{Broker, counted}
 
 -- the first line of a text asks for this, and the rest comes after it
 pub record Asks (numbered : Bool) (request : Request) (text rest : List ℕ) : Type 0 where
@@ -19,10 +17,3 @@ pub record AsksDeed (deed : Deed) (bytes rest : List ℕ) : Type 0 where
   pub one : ended_lines [] line ≡ []
   pub short : length line ≤ 50
   pub wants : deed_of line ≡ Some deed
-
--- memory was wanting on the way to the answer of the first line of a text
-pub record StopsAtFirst (s s' : Broker) (text before after : List ℕ) : Type 0 where
-  pub line : Option (List ℕ)
-  pub rest : List ℕ
-  pub first : HasLines text (line ∷ []) rest
-  pub stops : StopsAtReading (counted s) s' (reading_of s.is_numbered line) before after

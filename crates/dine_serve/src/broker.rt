@@ -2,7 +2,6 @@
 
 ghost use Rattle.std.specs.Prelude.{◌≡◌, ◌<◌, ◌≤◌, ◌+◌, ◌*◌, ◌-◌, ◌^◌, ◌∷◌, ◌++◌, [], length, map, Err, None, Ok, IfOk, OnErr, OnOk, Some, vec_capacity, vec_len};
 ghost use mathlib.Core.List.{IsPrefix};
-ghost use Rattle.dine_streams.specs.Handed.{handed};
 ghost use Rattle.dine_streams.specs.Lines.{begun_line};
 ghost use Rattle.dine_streams.specs.Machines.{Takes};
 ghost use Rattle.dine_table.specs.Calls.{reply_of, table_after_call};
@@ -10,9 +9,7 @@ ghost use Rattle.dine_words.specs.Texts.{entry_text, text_of_lines};
 ghost use Rattle.dine_serve.specs.Answers.{answer_line, answer_of, entry_in};
 ghost use Rattle.dine_serve.specs.Partly.{IsUndone, StopsAtComing, StopsAtDeed, StopsAtReading};
 ghost use Rattle.dine_serve.specs.Receipts.{coming_of};
-ghost use Rattle.dine_serve.specs.Requests.{reading_of};
 ghost use Rattle.dine_serve.specs.Serving.{IsGoing, after_coming, after_deed, after_making, after_reading, answer_done, counted, entries_made, received, said_coming, said_done, said_to, serves, standing_at, HasRoom, has_no_room, is_full};
-ghost use Rattle.dine_serve.specs.UsualForms.{StopsAtFirst};
 ghost use Rattle.dine_serve.specs.Waits.{begun_from};
 
 use crate::answer_texts::{
@@ -121,15 +118,14 @@ impl Broker {
         ensures taken { IfOk result (λ rest. Takes serves self.old self.new
             text.now rest.now out.old.items out.new.items) }
         ensures shorter { IfOk result (λ rest. length rest.now < length text.now) }
-        ensures stops { OnErr result (StopsAtFirst self.old self.new
-            text.now out.old.items out.new.items) }
+        ensures err { OnErr result (IsPrefix out.old.items out.new.items) }
     {
         let Some((request, rest)) = usual_at(text, self.is_numbered) else {
             let Some((line, rest)) = Line::cut(text) else {
                 // A text of whole lines has one while it has a byte.
                 return Ok(&[]);
             };
-            self.take_line(line, out)?;
+            self.take_read(read_line(line, self.is_numbered), out)?;
             return Ok(rest);
         };
         self.count();
@@ -137,40 +133,30 @@ impl Broker {
         Ok(rest)
     }
 
-    // Answers a line: what it asks for is done, and the lines that answer it are appended to `out`.
+    // Answers a line that was read so: what it asks for is done, and the lines that answer it are appended to `out`.
     //
     // An error is want of memory. The line is counted then, and a part of its answer may have been appended, behind what
     // stood there before. If there is no memory for the lines of a call and of the begins after it, nothing is done and
     // nothing is appended. A begin that was to be taken back is.
     #[inline(never)]
-    fn take_line(&mut self, line: Line, out: &mut Vec<u8>) -> Result<(), AllocError>
+    fn take_read(
+        &mut self,
+        reading: Result<Option<Request>, LineFault>,
+        out: &mut Vec<u8>,
+    ) -> Result<(), AllocError>
         requires { HasRoom self.old }
-        ensures after { OnOk result
-            (self.new ≡ after_reading (counted self.old)
-            (reading_of self.old.is_numbered (handed line.entry))) }
-        ensures said { OnOk result (out.new.items ≡ out.old.items ++ text_of_lines
-            (said_to (counted self.old) (reading_of self.old.is_numbered (handed line.entry)))) }
-        ensures err { OnErr result (StopsAtReading (counted self.old) self.new
-            (reading_of self.old.is_numbered (handed line.entry)) out.old.items out.new.items) }
+        ensures after { OnOk result (self.new ≡ after_reading (counted self.old) reading) }
+        ensures said { OnOk result
+            (out.new.items ≡ out.old.items ++ text_of_lines (said_to (counted self.old) reading)) }
+        ensures err { OnErr result (StopsAtReading (counted self.old) self.new reading
+            out.old.items out.new.items) }
     {
         self.count();
-        match read_line(line, self.is_numbered) {
+        match reading {
             Ok(None) => Ok(()),
             Ok(Some(request)) => self.take_request(request, out),
             Err(fault) => self.refuse(fault, out),
         }
-    }
-
-    // Answers a last line that has no line feed: it may be torn, so it isn't carried out.
-    fn take_torn(&mut self, out: &mut Vec<u8>) -> Result<(), AllocError>
-        requires { HasRoom self.old }
-        ensures after { self.new ≡ after_reading (counted self.old) (Err LineFault.Torn) }
-        ensures said { OnOk result (out.new.items ≡ out.old.items
-            ++ text_of_lines (said_to (counted self.old) (Err LineFault.Torn))) }
-        ensures err_said { OnErr result (IsPrefix out.old.items out.new.items) }
-    {
-        self.count();
-        self.refuse(LineFault::Torn, out)
     }
 
     // Counts a line that was heard.
@@ -438,6 +424,7 @@ impl Machine for Broker {
         if self.is_worn_out() {
             return Err(AllocError);
         }
-        self.take_torn(out)
+        // It may be torn, so it isn't carried out.
+        self.take_read(Err(LineFault::Torn), out)
     }
 }

@@ -49,7 +49,7 @@ pub enum Request {
 
 /// What a line asks for, where requests have numbers or where they have none: `None` where it is passed over, and an
 /// error where it is no request.
-#[inline(always)]
+#[inline(never)]
 pub fn read_line(line: Line, is_numbered: bool) -> Result<Option<Request>, LineFault>
     ensures { result ≡ reading_of is_numbered (handed line.entry) }
 {
