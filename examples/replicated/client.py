@@ -48,11 +48,16 @@ class Client:
 
     # A node that has no answer for so long may be cut off: the same is asked of the next one.
     answer_seconds = 30
+    # A node that doesn't let the client in, or has no log, is passed over for so long, unless all are. (Who awaits a meal longer than
+    # a node may take for an answer goes from node to node, and mustn't miss its meal at one that is cut off.)
+    shunned_seconds = 30
 
     def __init__(self, nodes):
         self.nodes, self.secret = nodes, secrets.token_urlsafe(24)
         self.caller, self.number, self.lease = None, 0, None
         self.at, self.line, self.file = 0, None, None
+        # Until when each node is passed over.
+        self.shunned = [0.0] * len(nodes)
         self.wants_home, self.asks = False, False
         self.gone, self.closed = threading.Event(), threading.Event()
         # Whoever changes the connection, or writes to it, has this.
@@ -78,7 +83,9 @@ class Client:
             self.line.connect(self.nodes[self.at])
             self.file = self.line.makefile("rb")
             self.introduce()
-        except BaseException:
+        except BaseException as why:
+            if isinstance(why, OSError):
+                self.shun()
             self.hang_up()
             raise
 
@@ -99,10 +106,16 @@ class Client:
                 self.line.close()
             self.line = self.file = None
 
+    def shun(self):
+        """The node that is tried now is passed over for a while."""
+        self.shunned[self.at] = time.monotonic() + self.shunned_seconds
+
     def turn(self):
-        """The next attempt is the next node's."""
+        """The next attempt is the next node's that isn't passed over."""
         self.hang_up()
-        self.at = (self.at + 1) % len(self.nodes)
+        now, count = time.monotonic(), len(self.nodes)
+        others = [(self.at + step) % count for step in range(1, count + 1)]
+        self.at = next((at for at in others if self.shunned[at] < now), others[0])
 
     def hear(self, start):
         """The next line that begins so, without that. It raises what a fault says of the client or of the log."""
@@ -167,13 +180,15 @@ class Client:
                 with self.lock:
                     if self.wants_home:
                         self.hang_up()
-                        self.at, self.wants_home = 0, False
+                        self.at, self.shunned[0], self.wants_home = 0, 0.0, False
                     self.connect()
                     self.line.settimeout(min(max(end - time.monotonic(), PAUSE_SECONDS), self.answer_seconds))
                     self.line.sendall(f"{self.caller} {number}{call}\n".encode())
                 return self.hear(number)
             except OSError as failure:
                 why, without_log = failure, without_log + 1 if isinstance(failure, NoLog) else 0
+                if without_log:
+                    self.shun()
             self.turn()
             time.sleep(PAUSE_SECONDS)
         raise Unreachable(f"no node carried out {call!r} within {seconds} s: {why}")

@@ -5,9 +5,11 @@ import os
 import random
 import re
 import resource
+import signal
 import socket
 import subprocess
 import sys
+import threading
 import time
 
 from bench import LONG_LEASE, SHORT_LEASE, SLACK, eat, two_in_conflict
@@ -293,6 +295,37 @@ def the_library_changes_its_node(bench):
     return f"{bench.agree()} entries"
 
 
+class Hurried(Client):
+    """A client that soon asks the next node, and notes where it was let in or wasn't."""
+
+    answer_seconds = 0.5
+
+    def __init__(self, nodes):
+        super().__init__(nodes)
+        self.visits = []
+
+    def introduce(self):
+        self.visits.append(self.at)
+        super().introduce()
+
+
+def who_waits_passes_over_a_silent_node(bench):
+    """A client that waits long for its meal goes from node to node, and once only to one that doesn't let it in."""
+    nodes = [bench.node() for _ in range(3)]
+    eater, waiter = bench.line(nodes[0]), Hurried([node.socket for node in nodes])
+    a, b = eater.join(), waiter.join()
+    waiter.conflict(a, b)
+    place = eat(eater, a)
+    nodes[1].process.send_signal(signal.SIGSTOP)
+    threading.Timer(10 * waiter.answer_seconds, eater.call, [f"finish {a} {place}"]).start()
+    with waiter.meal(b):
+        nodes[1].process.send_signal(signal.SIGCONT)
+    same("how often it was at the silent node", waiter.visits.count(1), 1)
+    same("whether it was at the others again and again", min(waiter.visits.count(0), waiter.visits.count(2)) > 2, True)
+    waiter.close()
+    return f"{bench.agree()} entries"
+
+
 def short_clients_leave_nothing(bench):
     """Many short clients leave no task, no pass, and nothing in the checkpoint."""
     node = bench.node("--tasks", "2", "--clients", "3")
@@ -477,6 +510,7 @@ TESTS = (
     a_waiter_that_dies_is_told,
     a_stopped_client_is_dead,
     the_library_changes_its_node,
+    who_waits_passes_over_a_silent_node,
     short_clients_leave_nothing,
     clients_have_a_limit,
     a_client_has_its_share,
