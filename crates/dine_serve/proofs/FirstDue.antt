@@ -10,12 +10,9 @@ use Rattle.dine_serve.proofs.Queueing.{before-itself, one_task}
 pub first-passes : (P : Await → Type 0) (p : Await → Bool) (xs : List Await) (b : Await) → AllByRecursion P xs → first_of (filter p xs) ≡ Some b → P b × (p b ≡ true)
 first-passes P p [] b all h = absurd (let two : None ≡ Some b = h in cc)
 first-passes P p (x ∷ xs) b all h = elim (cases_Bool (p x)) [
-  | inl e ↦ let same : x ≡ b = inner x b (rw e at h) in (subst P same all.0, subst (λ y. p y ≡ true) same e)
+  | inl e ↦ let same : x ≡ b = let k : Some x ≡ Some b = rw e at h in cc in (subst P same all.0, subst (λ y. p y ≡ true) same e)
   | inr e ↦ first-passes P p xs b all.1 (rw e at h)
 ]
-  where
-    inner : (y z : Await) → Some y ≡ Some z → y ≡ z
-    inner y z k = cc
 
 -- ---- what is due first
 
@@ -35,12 +32,9 @@ splits t (x ∷ xs) a h = elim (cases_Bool (has_to_wait t x.task)) [
       let rest = splits t xs a (rw e at h) in
       record { front = x ∷ rest.front; back = rest.back; all = ap (λ l. x ∷ l) rest.all; wait = (e, rest.wait); due = rest.due }
   | inr e ↦
-      let same : x ≡ a = inner x a (rw e at h) in
+      let same : x ≡ a = let k : Some x ≡ Some a = rw e at h in cc in
       record { front = []; back = xs; all = ap (λ y. y ∷ xs) same; wait = tt; due = subst (λ (y : Await). has_to_wait t y.task ≡ false) same e }
 ]
-  where
-    inner : (y z : Await) → Some y ≡ Some z → y ≡ z
-    inner y z k = cc
 
 -- and all have to wait where none is
 pub none-due : (t : Table) (xs : List Await) → first_due t xs ≡ None → AllWait t xs

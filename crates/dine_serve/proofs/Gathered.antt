@@ -46,19 +46,7 @@ first-first d ds (x ∷ xs) own order = elim (cases_Bool (waits_at d.task.slot x
 -- at another slot as many wait without those at one
 at-other : (slot s : ℕ) (xs : List Await) → eqb slot s ≡ false → filter (waits_at s) (elsewhere slot xs) ≡ filter (waits_at s) xs
 at-other slot s [] off = refl
-at-other slot s (x ∷ xs) off = elim (cases_Bool (waits_at slot x)) [
-  | inr e ↦ rw e (elim (cases_Bool (waits_at s x)) [
-    | inl f ↦ rw f (ap (λ l. x ∷ l) (at-other slot s xs off))
-    | inr f ↦ rw f (at-other slot s xs off)
-  ])
-  | inl e ↦ rw e (elim (cases_Bool (waits_at s x)) [
-    | inr f ↦ rw f (at-other slot s xs off)
-    | inl f ↦ absurd (let two : true ≡ false = sym (both slot s x.task.slot e f) ∙ off in cc)
-  ])
-]
-  where
-    both : (a b c : ℕ) → eqb a c ≡ true → eqb b c ≡ true → eqb a b ≡ true
-    both a b c h k = grind (arith, nat_tests)
+at-other slot s (x ∷ xs) off = grind (arith, nat_tests, at-other slot s xs off)
 
 -- so the tasks in other slots have the same
 gathered-elsewhere : (slot : ℕ) (ds : List Diner) (xs : List Await) → AllByRecursion (λ e. eqb slot e.task.slot ≡ false) ds → gathered ds (elsewhere slot xs) ≡ gathered ds xs

@@ -20,13 +20,7 @@ put-other receipts p pass number r off = ap (λ o. coming_at o number) (slice_ge
 put-answer : (receipts : List (Option Receipt)) (p number n : ℕ) (answer : RequestAnswer) → has_number (slice_get receipts p) n ≡ true → is_first (coming_of (slice_set receipts p (Some record { number = n; answer = answer })) p number) ≡ is_first (coming_of receipts p number)
 put-answer [] p number n answer has = absurd (let k : false ≡ true = has in cc)
 put-answer (None ∷ rs) zero number n answer has = absurd (let k : false ≡ true = has in cc)
-put-answer (Some last ∷ rs) zero number n answer has = rw (eqb-true last.number n has) (elim (cases_Bool (nat_lt n number)) [
-  | inl e ↦ rw e refl
-  | inr e ↦ rw e (elim (cases_Bool (eqb n number)) [
-    | inl f ↦ rw f refl
-    | inr f ↦ rw f refl
-  ])
-])
+put-answer (Some last ∷ rs) zero number n answer has = rw (eqb-true last.number n has) (grind arith)
 put-answer (x ∷ rs) (suc p) number n answer has = put-answer rs p number n answer has
 
 -- ---- while a request is carried out they stay the same
@@ -84,26 +78,14 @@ IsPast pass number receipts = is_first (coming_of receipts pass number) ≡ fals
 -- so it is with each number that the last request's isn't below
 past-put : (receipts : List (Option Receipt)) (p number : ℕ) (r : Receipt) → nat_lt r.number number ≡ false → IsPast p number (slice_set receipts p (Some r))
 past-put [] p number r low = refl
-past-put (x ∷ rs) zero number r low = rw low (elim (cases_Bool (eqb r.number number)) [
-  | inl f ↦ rw f refl
-  | inr f ↦ rw f refl
-])
+past-put (x ∷ rs) zero number r low = grind arith
 past-put (x ∷ rs) (suc p) number r low = past-put rs p number r low
 
 -- a number that comes for the first time isn't below one that doesn't
 not-below : (o : Option (Option Receipt)) (number n : ℕ) → is_first (coming_at o number) ≡ false → is_first (coming_at o n) ≡ true → nat_lt n number ≡ false
 not-below None number n past first = absurd (let k : false ≡ true = first in cc)
 not-below (Some None) number n past first = absurd (let k : true ≡ false = past in cc)
-not-below (Some (Some last)) number n past first = elim (cases_Bool (nat_lt last.number number)) [
-  | inl e ↦ absurd (let k : true ≡ false = rw e at past in cc)
-  | inr e ↦ elim (cases_Bool (nat_lt last.number n)) [
-    | inl f ↦ grind (arith, nat_tests, e, f)
-    | inr f ↦ elim (cases_Bool (eqb last.number n)) [
-      | inl g ↦ absurd (let k : false ≡ true = rw (f, g) at first in cc)
-      | inr g ↦ absurd (let k : false ≡ true = rw (f, g) at first in cc)
-    ]
-  ]
-]
+not-below (Some (Some last)) number n past first = grind (arith, nat_tests)
 
 -- so it is after the receipt of a request that came for the first time
 past-received : (pass number : ℕ) (s : Broker) (p n : ℕ) (answer : Option RequestAnswer) → IsPast pass number s.receipts → (eqb p pass ≡ true → nat_lt n number ≡ false) → IsPast pass number (received p n answer s).receipts

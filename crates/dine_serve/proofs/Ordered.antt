@@ -1,5 +1,5 @@
 -- Those who wait stand in the order of last meals.
-use Rattle.dine_serve.proofs.Words.{◌≡◌, ℕ, eqb, true, false, List, [], ◌∷◌, Option, Some, None, is_none, inl, inr, Result, Ok, Err, refl, sym, ap, ◌∙◌, cases_Bool, Call, Diner, State, Thinking, Hungry, Eating, Task, Table, same_task, stands_before, state_in, state_of, changed_by, has_to_wait, newcomer, refusal_of, table_after_call, without, absent_differs, found, free_slot-unused, is_used, same_task-true, stands_before-append, stands_before-with_state, stands_before-without, Await, LineFault, RequestAnswer, Coming, First, Again, Stale, Foreign, Deed, Make, Cancel, Request, Ask, Order, Numbered, coming_of, reading_of, Broker, after_coming, after_deed, after_making, after_reading, answer_done, counted, is_full, received, standing_from, AllWait, InOrder, is_await_of, noted, still_waiting, table_begun, taken_back}
+use Rattle.dine_serve.proofs.Words.{◌≡◌, ℕ, eqb, true, false, List, [], ◌∷◌, Option, Some, None, is_none, inl, inr, Result, Ok, Err, refl, sym, ap, ◌∙◌, arith, nat_tests, cases_Bool, Call, Diner, State, Thinking, Hungry, Eating, Task, Table, same_task, stands_before, state_in, state_of, changed_by, has_to_wait, newcomer, refusal_of, table_after_call, without, absent_differs, found, free_slot-unused, is_used, same_task-true, stands_before-append, stands_before-with_state, stands_before-without, Await, LineFault, RequestAnswer, Coming, First, Again, Stale, Foreign, Deed, Make, Cancel, Request, Ask, Order, Numbered, coming_of, reading_of, Broker, after_coming, after_deed, after_making, after_reading, answer_done, counted, is_full, received, standing_from, AllWait, InOrder, is_await_of, noted, still_waiting, table_begun, taken_back}
 use Rattle.dine_words.specs.declared.call.Call.TheVariants as call
 use Rattle.dine_serve.specs.declared.request.Deed.TheVariants.{Await as await}
 use Rattle.dine_serve.proofs.Each.{each-and, each-back, each-noted, each-on, each-still}
@@ -10,34 +10,16 @@ use Rattle.dine_serve.proofs.Waiting.{all-left-wait, is_none-None, who_waits-hun
 -- of two tasks one at most stands before the other
 pub before-one_way : (order : List Diner) (a b : Task) → stands_before order a b ≡ true → stands_before order b a ≡ false
 before-one_way [] a b h = absurd (let k : false ≡ true = h in cc)
-before-one_way (d ∷ ds) a b h = elim (cases_Bool (same_task d.task b)) [
-  | inl e ↦ absurd (let k : false ≡ true = rw e at h in cc)
-  | inr e ↦ elim (cases_Bool (same_task d.task a)) [
-    | inl f ↦ rw f refl
-    | inr f ↦ rw (f, e) (before-one_way ds a b (rw (e, f) at h))
-  ]
-]
+before-one_way (d ∷ ds) a b h = grind (arith, before-one_way ds a b)
 
 -- whoever stands before the first of two stands before the second
 pub before-through : (order : List Diner) (x a b : Task) → stands_before order x a ≡ true → stands_before order a b ≡ true → stands_before order x b ≡ true
 before-through [] x a b h k = absurd (let no_way : false ≡ true = h in cc)
-before-through (d ∷ ds) x a b h k = elim (cases_Bool (same_task d.task b)) [
-  | inl e ↦ absurd (let no_way : false ≡ true = rw e at k in cc)
-  | inr e ↦ elim (cases_Bool (same_task d.task a)) [
-    | inl f ↦ absurd (let no_way : false ≡ true = rw f at h in cc)
-    | inr f ↦ elim (cases_Bool (same_task d.task x)) [
-      | inl g ↦ rw (e, g) refl
-      | inr g ↦ rw (e, g) (before-through ds x a b (rw (f, g) at h) (rw (e, f) at k))
-    ]
-  ]
-]
+before-through (d ∷ ds) x a b h k = grind (arith, before-through ds x a b)
 
 -- who doesn't stand before the later of two doesn't stand before the earlier
 before-neither : (order : List Diner) (x a b : Task) → stands_before order a b ≡ true → stands_before order x b ≡ false → stands_before order x a ≡ false
-before-neither order x a b earlier off = elim (cases_Bool (stands_before order x a)) [
-  | inl e ↦ absurd (let k : true ≡ false = sym (before-through order x a b e earlier) ∙ off in cc)
-  | inr e ↦ e
-]
+before-neither order x a b earlier off = grind (arith, before-through order x a b)
 
 -- ---- noting and taking back
 
@@ -96,10 +78,7 @@ in_order-begun t others all = in_order-same t.order (table_begun t others).order
 -- a task whose slot is free isn't present
 unused-absent : (order : List Diner) (u : Task) → is_used order u.slot ≡ false → state_in order u ≡ None
 unused-absent [] u h = refl
-unused-absent (d ∷ ds) u h = elim (cases_Bool (eqb d.task.slot u.slot)) [
-  | inl e ↦ absurd (let k : true ≡ false = rw e at h in cc)
-  | inr e ↦ rw e (unused-absent ds u (rw e at h))
-]
+unused-absent (d ∷ ds) u h = grind (arith, unused-absent ds u)
 
 -- a newcomer isn't present before it joins
 pub newcomer-absent : (t : Table) → state_of t (newcomer t) ≡ None

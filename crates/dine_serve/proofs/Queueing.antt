@@ -5,24 +5,12 @@ use Rattle.std.specs.List.{IsDistinct}
 -- nobody stands before itself
 pub before-itself : (order : List Diner) (u : Task) → stands_before order u u ≡ false
 before-itself [] u = refl
-before-itself (d ∷ ds) u = elim (cases_Bool (same_task d.task u)) [
-  | inl e ↦ rw e refl
-  | inr e ↦ rw e (before-itself ds u)
-]
+before-itself (d ∷ ds) u = grind (arith, before-itself ds u)
 
 -- whoever stands before a task stands before one that doesn't stand before that
 before-later : (order : List Diner) (u a b : Task) → stands_before order u a ≡ true → stands_before order b a ≡ false → stands_before order u b ≡ true
 before-later [] u a b h k = absurd (let no_way : false ≡ true = h in cc)
-before-later (d ∷ ds) u a b h k = elim (cases_Bool (same_task d.task a)) [
-  | inl e ↦ absurd (let no_way : false ≡ true = rw e at h in cc)
-  | inr e ↦ elim (cases_Bool (same_task d.task b)) [
-    | inl f ↦ absurd (let no_way : true ≡ false = rw (e, f) at k in cc)
-    | inr f ↦ elim (cases_Bool (same_task d.task u)) [
-      | inl g ↦ rw (f, g) refl
-      | inr g ↦ rw (f, g) (before-later ds u a b (rw (e, g) at h) (rw (e, f) at k))
-    ]
-  ]
-]
+before-later (d ∷ ds) u a b h k = grind (arith, before-later ds u a b)
 
 -- two that are present and wait at one slot are of one task
 pub one_task : (order : List Diner) (u v : Task) → IsDistinct same_slot order → is_some (state_in order u) ≡ true → is_some (state_in order v) ≡ true → eqb u.slot v.slot ≡ true → u ≡ v
@@ -59,13 +47,7 @@ module _ (order : List Diner) (apart : IsDistinct same_slot order) (a : Await) (
   -- elsewhere nobody is noted
   noted-other : (s : ℕ) (xs : List Await) → eqb s a.task.slot ≡ false → filter (waits_at s) (noted order a xs) ≡ filter (waits_at s) xs
   noted-other s [] off = rw off refl
-  noted-other s (b ∷ bs) off = elim (cases_Bool (stands_before order a.task b.task)) [
-    | inl e ↦ rw e (rw off refl)
-    | inr e ↦ rw e (elim (cases_Bool (waits_at s b)) [
-      | inl f ↦ rw f (ap (λ l. b ∷ l) (noted-other s bs off))
-      | inr f ↦ rw f (noted-other s bs off)
-    ])
-  ]
+  noted-other s (b ∷ bs) off = grind (arith, noted-other s bs off)
 
   -- so the queues have those who wait, and the one who is noted
   pub noted-queued : (rows rows' : List (List Await)) (xs : List Await) → AreSeated order xs → InOrder order xs → AreQueued rows xs → Changes rows rows' a.task.slot (queue_at rows a.task.slot ++ a ∷ []) → AreQueued rows' (noted order a xs)
@@ -81,10 +63,7 @@ module _ (order : List Diner) (apart : IsDistinct same_slot order) (a : Await) (
 -- one more waits
 pub noted-length : (order : List Diner) (a : Await) (xs : List Await) → length (noted order a xs) ≡ length xs + 1
 noted-length order a [] = refl
-noted-length order a (b ∷ bs) = elim (cases_Bool (stands_before order a.task b.task)) [
-  | inl e ↦ rw e (omega arith)
-  | inr e ↦ rw e (let rest = noted-length order a bs in omega (arith, rest))
-]
+noted-length order a (b ∷ bs) = grind (arith, noted-length order a bs)
 
 -- ---- taking back
 
@@ -96,43 +75,17 @@ module _ (pass : ℕ) (u : Task) where
   -- whether one waits is told by the task's slot
   pub noted-at : (xs : List Await) → is_noted pass u (filter (waits_at u.slot) xs) ≡ is_noted pass u xs
   noted-at [] = refl
-  noted-at (x ∷ xs) = elim (cases_Bool (waits_at u.slot x)) [
-    | inl e ↦
-        let own : filter (waits_at u.slot) (x ∷ xs) ≡ x ∷ filter (waits_at u.slot) xs = rw e refl in
-        ap (is_noted pass u) own ∙ ap (λ rest. if is_await_of pass u x then true else rest) (noted-at xs)
-    | inr e ↦ elim (cases_Bool (is_await_of pass u x)) [
-      | inl f ↦ absurd (let two : true ≡ false = sym (of_task pass u x f) ∙ e in cc)
-      | inr f ↦
-          let other : filter (waits_at u.slot) (x ∷ xs) ≡ filter (waits_at u.slot) xs = rw e refl in
-          let here : is_noted pass u (x ∷ xs) ≡ is_noted pass u xs = rw f refl in
-          ap (is_noted pass u) other ∙ noted-at xs ∙ sym here
-    ]
-  ]
+  noted-at (x ∷ xs) = grind (arith, of_task pass u x, noted-at xs)
 
   -- one is taken back there
   back-own : (xs : List Await) → filter (waits_at u.slot) (taken_back pass u xs) ≡ taken_back pass u (filter (waits_at u.slot) xs)
   back-own [] = refl
-  back-own (x ∷ xs) = elim (cases_Bool (is_await_of pass u x)) [
-    | inl f ↦ rw (f, of_task pass u x f) (rw f refl)
-    | inr f ↦ rw f (elim (cases_Bool (waits_at u.slot x)) [
-      | inl e ↦ rw e (rw f (ap (λ l. x ∷ l) (back-own xs)))
-      | inr e ↦ rw e (back-own xs)
-    ])
-  ]
+  back-own (x ∷ xs) = grind (arith, of_task pass u x, back-own xs)
 
   -- and none elsewhere
   back-other : (s : ℕ) (xs : List Await) → eqb u.slot s ≡ false → filter (waits_at s) (taken_back pass u xs) ≡ filter (waits_at s) xs
   back-other s [] off = refl
-  back-other s (x ∷ xs) off = elim (cases_Bool (is_await_of pass u x)) [
-    | inl f ↦ rw (f, elsewhere u.slot x.task.slot s (of_task pass u x f) off) refl
-    | inr f ↦ rw f (elim (cases_Bool (waits_at s x)) [
-      | inl e ↦ rw e (ap (λ l. x ∷ l) (back-other s xs off))
-      | inr e ↦ rw e (back-other s xs off)
-    ])
-  ]
-    where
-      elsewhere : (m n k : ℕ) → eqb m n ≡ true → eqb m k ≡ false → eqb k n ≡ false
-      elsewhere m n k h j = grind (arith, nat_tests)
+  back-other s (x ∷ xs) off = grind (arith, nat_tests, of_task pass u x, back-other s xs off)
 
   -- so the queues have the others
   pub back-queued : (rows rows' : List (List Await)) (xs : List Await) → AreQueued rows xs → Changes rows rows' u.slot (taken_back pass u (queue_at rows u.slot)) → AreQueued rows' (taken_back pass u xs)
@@ -145,15 +98,9 @@ module _ (pass : ℕ) (u : Task) where
   -- one fewer waits where there is one
   pub back-length : (xs : List Await) → is_noted pass u xs ≡ true → length (taken_back pass u xs) + 1 ≡ length xs
   back-length [] h = absurd (let two : false ≡ true = h in cc)
-  back-length (x ∷ xs) h = elim (cases_Bool (is_await_of pass u x)) [
-    | inl f ↦ rw f (omega arith)
-    | inr f ↦ let rest = back-length xs (rw f at h) in rw f (omega (arith, rest))
-  ]
+  back-length (x ∷ xs) h = grind (arith, back-length xs)
 
   -- and as many where there is none
   pub back-none : (xs : List Await) → is_noted pass u xs ≡ false → taken_back pass u xs ≡ xs
   back-none [] h = refl
-  back-none (x ∷ xs) h = elim (cases_Bool (is_await_of pass u x)) [
-    | inl f ↦ absurd (let two : true ≡ false = rw f at h in cc)
-    | inr f ↦ rw f (ap (λ l. x ∷ l) (back-none xs (rw f at h)))
-  ]
+  back-none (x ∷ xs) h = grind (arith, back-none xs)

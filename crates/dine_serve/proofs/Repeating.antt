@@ -1,73 +1,40 @@
 -- Requests that come again: with a blank line in the place of each nothing is changed but the lines that answer them.
-use Rattle.dine_serve.proofs.Words.{◌≡◌, ℕ, eqb, Bool, true, false, if◌then◌else◌, List, [], ◌∷◌, ◌++◌, map, Option, Some, None, Result, Ok, Err, inl, inr, refl, sym, ap, ◌∙◌, cases_Bool, filter-append, filter, Entry, has_to_wait, entry_text, LineFault, Made, Cancelled, Waits, Coming, First, Again, Stale, Foreign, Deed, Make, Cancel, Request, Ask, Order, Numbered, is_of_journal, coming_of, is_again, is_no_repeat, is_repeat, without_repeats, reading_of, Broker, after_coming, after_reading, counted, entries_by, entries_coming, entries_from, entries_made, is_full, said_coming, said_done, said_from, said_to, standing_from}
+use Rattle.dine_serve.proofs.Words.{◌≡◌, ℕ, eqb, Bool, true, false, if◌then◌else◌, List, [], ◌∷◌, ◌++◌, map, Option, Some, None, Result, Ok, Err, inl, inr, refl, sym, ap, ◌∙◌, cases_Bool, arith, nat_tests, filter-append, filter, Entry, has_to_wait, entry_text, LineFault, Made, Cancelled, Waits, Coming, First, Again, Stale, Foreign, Deed, Make, Cancel, Request, Ask, Order, Numbered, is_of_journal, coming_of, is_again, is_no_repeat, is_repeat, without_repeats, reading_of, Broker, after_coming, after_reading, counted, entries_by, entries_coming, entries_from, entries_made, is_full, said_coming, said_done, said_from, said_to, standing_from}
 use Rattle.dine_words.specs.declared.call.Call.TheVariants as call
 use Rattle.dine_serve.specs.declared.request.Deed.TheVariants.{Await as await}
 use Rattle.dine_serve.proofs.Legal.{entry_of_journal}
 
 -- ---- a line that comes again
 
--- a request that comes again leaves the broker where it stands
-still-coming : (s : Broker) (pass number : ℕ) (deed : Deed) (coming : Coming) → is_again coming ≡ true → after_coming s pass number deed coming ≡ s
-still-coming s pass number deed First h = absurd (let k : false ≡ true = h in cc)
-still-coming s pass number deed (Again answer) h = refl
-still-coming s pass number deed Stale h = absurd (let k : false ≡ true = h in cc)
-still-coming s pass number deed Foreign h = absurd (let k : false ≡ true = h in cc)
+-- a line that comes again leaves the broker where it stands, and makes no call; what is said to it begins with `=`
+record Idle (s : Broker) (after : Broker) (said : List (List ℕ)) (entries : List Entry) : Type 0 where
+  still : after ≡ s
+  none : entries ≡ []
+  unsaid : filter is_no_repeat said ≡ []
 
--- it makes no call
-none-coming : (s : Broker) (pass : ℕ) (deed : Deed) (coming : Coming) → is_again coming ≡ true → entries_coming s pass deed coming ≡ []
-none-coming s pass deed First h = absurd (let k : false ≡ true = h in cc)
-none-coming s pass deed (Again answer) h = refl
-none-coming s pass deed Stale h = refl
-none-coming s pass deed Foreign h = refl
+-- so it is with a request, however it comes
+idle-coming : (s : Broker) (pass number : ℕ) (deed : Deed) (coming : Coming) → is_again coming ≡ true → Idle s (after_coming s pass number deed coming) (said_coming s pass deed coming) (entries_coming s pass deed coming)
+idle-coming s pass number deed First h = absurd (let k : false ≡ true = h in cc)
+idle-coming s pass number deed (Again (Made e)) h = record { still = refl; none = refl; unsaid = refl }
+idle-coming s pass number deed (Again (Cancelled found u)) h = record { still = refl; none = refl; unsaid = refl }
+idle-coming s pass number deed (Again Waits) h = record { still = refl; none = refl; unsaid = refl }
+idle-coming s pass number deed Stale h = absurd (let k : false ≡ true = h in cc)
+idle-coming s pass number deed Foreign h = absurd (let k : false ≡ true = h in cc)
 
--- nothing is said to it but lines that begin with `=`
-unsaid-coming : (s : Broker) (pass : ℕ) (deed : Deed) (coming : Coming) → is_again coming ≡ true → filter is_no_repeat (said_coming s pass deed coming) ≡ []
-unsaid-coming s pass deed First h = absurd (let k : false ≡ true = h in cc)
-unsaid-coming s pass deed (Again (Made e)) h = refl
-unsaid-coming s pass deed (Again (Cancelled found u)) h = refl
-unsaid-coming s pass deed (Again Waits) h = refl
-unsaid-coming s pass deed Stale h = absurd (let k : false ≡ true = h in cc)
-unsaid-coming s pass deed Foreign h = absurd (let k : false ≡ true = h in cc)
-
--- it leaves the broker where it stands
-still : (s : Broker) (r : Result (Option Request) LineFault) → is_repeat s r ≡ true → after_reading s r ≡ s
-still s (Ok (Some (Numbered pass number deed))) h = still-coming s pass number deed (coming_of s.receipts pass number) h
-still s (Ok None) h = refl
-still s (Ok (Some (Ask question))) h = refl
-still s (Ok (Some (Order pass deed))) h = absurd (let k : false ≡ true = h in cc)
-still s (Err found) h = absurd (let k : false ≡ true = h in cc)
-
--- no call is made
-none-made : (s : Broker) (r : Result (Option Request) LineFault) → is_repeat s r ≡ true → entries_by s r ≡ []
-none-made s (Ok (Some (Numbered pass number deed))) h = none-coming s pass deed (coming_of s.receipts pass number) h
-none-made s (Ok None) h = refl
-none-made s (Ok (Some (Ask question))) h = refl
-none-made s (Ok (Some (Order pass deed))) h = absurd (let k : false ≡ true = h in cc)
-none-made s (Err found) h = refl
-
--- what is said to it begins with `=`
-unsaid : (s : Broker) (r : Result (Option Request) LineFault) → is_repeat s r ≡ true → filter is_no_repeat (said_to s r) ≡ []
-unsaid s (Ok (Some (Numbered pass number deed))) h = unsaid-coming s pass deed (coming_of s.receipts pass number) h
-unsaid s (Ok None) h = refl
-unsaid s (Ok (Some (Ask question))) h = absurd (let k : false ≡ true = h in cc)
-unsaid s (Ok (Some (Order pass deed))) h = absurd (let k : false ≡ true = h in cc)
-unsaid s (Err found) h = absurd (let k : false ≡ true = h in cc)
+-- and with any line
+idle : (s : Broker) (r : Result (Option Request) LineFault) → is_repeat s r ≡ true → Idle s (after_reading s r) (said_to s r) (entries_by s r)
+idle s (Ok (Some (Numbered pass number deed))) h = idle-coming s pass number deed (coming_of s.receipts pass number) h
+idle s (Ok None) h = absurd (let k : false ≡ true = h in cc)
+idle s (Ok (Some (Ask question))) h = absurd (let k : false ≡ true = h in cc)
+idle s (Ok (Some (Order pass deed))) h = absurd (let k : false ≡ true = h in cc)
+idle s (Err found) h = absurd (let k : false ≡ true = h in cc)
 
 -- ---- a line that doesn't
 
 -- a line of the journal doesn't begin with `=`
 no_repeat : (line : List ℕ) → is_of_journal line ≡ true → is_no_repeat line ≡ true
 no_repeat [] h = refl
-no_repeat (b ∷ bs) h = elim (cases_Bool (eqb b 61)) [
-  | inr e ↦ rw e refl
-  | inl e ↦ elim (cases_Bool (eqb b 63)) [
-    | inl f ↦ absurd (let k : false ≡ true = rw f at h in cc)
-    | inr f ↦ elim (cases_Bool (eqb b 33)) [
-      | inl g ↦ absurd (let k : false ≡ true = rw (f, g) at h in cc)
-      | inr g ↦ absurd (let k : false ≡ true = rw (f, g, e) at h in cc)
-    ]
-  ]
-]
+no_repeat (b ∷ bs) h = grind (arith, nat_tests)
 
 -- no entry's line begins with `=`
 kept-entries : (es : List Entry) → filter is_no_repeat (map entry_text es) ≡ map entry_text es
@@ -116,19 +83,19 @@ module _ (s : Broker) (line : Option (List ℕ)) where
 
   silent-after : after_reading (counted s) (reading_of s.is_numbered silent) ≡ after_reading (counted s) reading
   silent-after = elim (cases_Bool (is_repeat s reading)) [
-    | inl e ↦ rw e (sym (still (counted s) reading e))
+    | inl e ↦ rw e (sym (idle (counted s) reading e).still)
     | inr e ↦ rw e refl
   ]
 
   silent-entries : entries_by (counted s) (reading_of s.is_numbered silent) ≡ entries_by (counted s) reading
   silent-entries = elim (cases_Bool (is_repeat s reading)) [
-    | inl e ↦ rw e (sym (none-made (counted s) reading e))
+    | inl e ↦ rw e (sym (idle (counted s) reading e).none)
     | inr e ↦ rw e refl
   ]
 
   silent-said : filter is_no_repeat (said_to (counted s) reading) ≡ said_to (counted s) (reading_of s.is_numbered silent)
   silent-said = elim (cases_Bool (is_repeat s reading)) [
-    | inl e ↦ unsaid (counted s) reading e ∙ rw e refl
+    | inl e ↦ (idle (counted s) reading e).unsaid ∙ rw e refl
     | inr e ↦ kept (counted s) reading e ∙ rw e refl
   ]
 

@@ -148,7 +148,7 @@ module _ (t : Table) (w : Waiters) (c : Call) (r : IsRetried t c w) (a : Await) 
   back-first : (b : Await) (xs : List Await) → AllByRecursion Present xs → NoneBefore t.order a.task xs → InOrder t.order xs → first_of (filter (waits_at a.task.slot) xs) ≡ Some b → (rest : List Await) × (xs ≡ b ∷ rest)
   back-first b [] here none order h = absurd (let two : None ≡ Some b = h in cc)
   back-first b (x ∷ xs) here none order h = elim (cases_Bool (waits_at a.task.slot x)) [
-    | inl e ↦ let same : x ≡ b = inner x b (rw e at h) in (xs, ap (λ y. y ∷ xs) same)
+    | inl e ↦ let same : x ≡ b = let k : Some x ≡ Some b = rw e at h in cc in (xs, ap (λ y. y ∷ xs) same)
     | inr e ↦
         let later = first-passes (λ y. is_some (state_in t.order y.task) ≡ true × (stands_before t.order y.task x.task ≡ false)) (waits_at a.task.slot) xs b (each-and Present (λ y. stands_before t.order y.task x.task ≡ false) xs here.1 order.0) (rw e at h) in
         let same : a.task ≡ b.task = one_task t.order a.task b.task r.sound.each_slot_once seated.1.0 later.0.0 later.1 in
@@ -157,9 +157,6 @@ module _ (t : Table) (w : Waiters) (c : Call) (r : IsRetried t c w) (a : Await) 
         let ahead : stands_before t.order a.task x.task ≡ false = ap (λ u. stands_before t.order u x.task) same ∙ later.0.1 in
         absurd (let two : true ≡ false = sym (ap not ahead) ∙ sym way ∙ none.0 in cc)
   ]
-    where
-      inner : (y z : Await) → Some y ≡ Some z → y ≡ z
-      inner y z k = cc
 
   -- so the next at its slot is due first
   pub next-there : IsNext t' w'.rows a.task.slot

@@ -1,5 +1,5 @@
 -- Whoever has to wait waits on after a call that can't have ended its wait.
-use Rattle.dine_serve.proofs.Words.{◌≡◌, ℕ, ◌+◌, Bool, true, false, not, ◌&&◌, List, [], ◌∷◌, ◌++◌, Option, Some, None, is_none, inl, inr, refl, sym, ap, ◌∙◌, subst, append-nil, map, cons_option, filter, list_any, and_parts, cases_Bool, or_cases, or_parts, Contains-from_any, Call, Refusal, Done, Diner, Thinking, Eating, Task, entry_text, text_of_lines, is_done, may_end_waits, Table, are_in_conflict, is_between, keeps_waiting, neighbours_in, neighbours_of, other_end, same_task, state_in, state_of, acceptance_of, has_to_wait, moved_last, refusal_of, reply_of, table_after_call, with_state, without, conflict_either_way, found, neighbours_exactly, same_task-sym, same_task-true, stands_before-append, stands_before-with_state, stands_before-without, state_in-append_other, state_in-with_state_other, state_in-without_other, Await, Receipt, AllWaitBut, may_have_ended, Broker, after_making, AllWait, begun_from, receipts_begun, still_waiting, table_begun}
+use Rattle.dine_serve.proofs.Words.{◌≡◌, ℕ, ◌+◌, Bool, true, false, not, ◌&&◌, List, [], ◌∷◌, ◌++◌, Option, Some, None, is_none, inl, inr, refl, sym, ap, ◌∙◌, subst, arith, append-nil, map, cons_option, filter, list_any, and_parts, cases_Bool, or_cases, or_parts, Contains-from_any, Call, Refusal, Done, Diner, Thinking, Eating, Task, entry_text, text_of_lines, is_done, may_end_waits, Table, are_in_conflict, is_between, keeps_waiting, neighbours_in, neighbours_of, other_end, same_task, state_in, state_of, acceptance_of, has_to_wait, moved_last, refusal_of, reply_of, table_after_call, with_state, without, conflict_either_way, found, neighbours_exactly, same_task-sym, same_task-true, stands_before-append, stands_before-with_state, stands_before-without, state_in-append_other, state_in-with_state_other, state_in-without_other, Await, Receipt, AllWaitBut, may_have_ended, Broker, after_making, AllWait, begun_from, receipts_begun, still_waiting, table_begun}
 use Rattle.dine_words.specs.declared.call.Call.TheVariants as call
 use Rattle.dine_serve.proofs.ComingAndGoing.{waits-conflict, waits-join, waits-leave}
 use Rattle.dine_serve.proofs.Each.{each-on}
@@ -11,26 +11,13 @@ use Rattle.dine_serve.proofs.Waiting.{is_none-None, waits-begin, waits-hungry, w
 -- where one passes a test, one passes another that all but one task pass if they pass the first, unless it is that one
 pub any-but : (p q : Task → Bool) (v : Task) (xs : List Task) → ((x : Task) → same_task v x ≡ false → p x ≡ true → q x ≡ true) → list_any (same_task v) xs ≡ false → list_any p xs ≡ true → list_any q xs ≡ true
 any-but p q v [] more off h = h
-any-but p q v (x ∷ xs) more off h =
-    let parts = or_parts (same_task v x) (list_any (same_task v) xs) off in
-    elim (cases_Bool (p x)) [
-      | inl e ↦ rw (more x parts.0 e) refl
-      | inr e ↦
-          let rest : list_any q xs ≡ true = any-but p q v xs more parts.1 (rw e at h) in
-          elim (cases_Bool (q x)) [
-            | inl f ↦ rw f refl
-            | inr f ↦ rw f rest
-          ]
-    ]
+any-but p q v (x ∷ xs) more off h = grind (arith, more x, any-but p q v xs more)
 
 -- ---- a meal ends
 
 -- who isn't in conflict with a task is none of its neighbours
 not-beside : (t : Table) (v u : Task) → are_in_conflict t v u ≡ false → list_any (same_task v) (neighbours_of t u) ≡ false
-not-beside t v u apart = elim (cases_Bool (list_any (same_task v) (neighbours_of t u))) [
-  | inr e ↦ e
-  | inl e ↦ absurd (let two : true ≡ false = sym (conflict_either_way v u t.conflicts ∙ (neighbours_exactly t u v).0 (Contains-from_any {eq = same_task} same_task-true v (neighbours_of t u) e)) ∙ apart in cc)
-]
+not-beside t v u apart = grind (arith, conflict_either_way v u t.conflicts, (neighbours_exactly t u v).0, Contains-from_any {eq = same_task} same_task-true v (neighbours_of t u))
 
 -- whoever moves to the end keeps nobody waiting by it, and no other task keeps more or fewer waiting
 keeps-finished : (order : List Diner) (v u w : Task) → same_task v u ≡ false → same_task v w ≡ false → keeps_waiting (moved_last v order) u w ≡ keeps_waiting order u w

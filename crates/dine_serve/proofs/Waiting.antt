@@ -38,14 +38,7 @@ who_waits-hungry t u waits = (waits-only t u waits).hungry
 -- where one passes a test, one passes a weaker one
 pub any-more : (p q : Task → Bool) (xs : List Task) → ((x : Task) → p x ≡ true → q x ≡ true) → list_any p xs ≡ true → list_any q xs ≡ true
 any-more p q [] more h = h
-any-more p q (x ∷ xs) more h = elim (cases_Bool (p x)) [
-  | inl e ↦ rw (more x e) refl
-  | inr e ↦ let rest : list_any q xs ≡ true = any-more p q xs more (rw e at h) in
-      elim (cases_Bool (q x)) [
-        | inl f ↦ rw f refl
-        | inr f ↦ rw f rest
-      ]
-]
+any-more p q (x ∷ xs) more h = grind (arith, more x, any-more p q xs more)
 
 -- whoever waited waits on where another task, that kept nobody waiting or goes on to keep them waiting, gets another state
 module _ (t : Table) (v : Task) (s : State) (each : (u : Task) → keeps_waiting t.order u v ≡ true → keeps_waiting (with_state s v t.order) u v ≡ true) where
