@@ -3,20 +3,9 @@ use Rattle.dine_serve.proofs.Words.{◌≡◌, ℕ, ◌-◌, ◌^◌, ◌<◌, n
 
 -- ---- room for one line more
 
--- where one of two facts would be too much, neither holds
-neither : (a b : Bool) → (a || b) ≡ false → (a ≡ false) × (b ≡ false)
-neither true b h = absurd (let k : true ≡ false = h in cc)
-neither false b h = (refl, h)
-
--- a number that isn't at least another is below it
-above : (m n : ℕ) → nat_le m n ≡ false → n < m
-above m n h = grind (arith, nat_tests, h)
-
 -- a broker that is told to have room has it
 pub has_room : (s : Broker) → has_no_room s ≡ false → HasRoom s
-has_room s h =
-    let (lines, clock) = neither (nat_le (2 ^ 64 - 1) s.lines) (nat_le (2 ^ 64 - 2) s.table.clock) h in
-    record { lines = above (2 ^ 64 - 1) s.lines lines; going = above (2 ^ 64 - 2) s.table.clock clock }
+has_room s h = record { lines = grind (arith, nat_tests); going = grind (arith, nat_tests) }
 
 -- ---- results
 

@@ -1,5 +1,5 @@
 -- Whoever has to wait waits on where somebody joins or leaves, and where two tasks get a conflict.
-use Rattle.dine_serve.proofs.Words.{◌≡◌, ◌+◌, Bool, true, false, not, List, [], ◌∷◌, ◌++◌, Option, Some, None, is_none, inl, inr, refl, sym, ap, ◌∙◌, cons_option, filter, list_any, cases_Bool, or_left, or_right, filter_map-append, list_any-append, Diner, State, Thinking, Hungry, Eating, Task, Table, has_end, keeps_waiting, neighbours_in, neighbours_of, other_end, same_task, state_in, state_of, has_to_wait, newcomer, refusal_of, table_after_call, without, absent_differs, found, same_task-true, stands_before-append, stands_before-without, state_in-append_other, state_in-without_other}
+use Rattle.dine_serve.proofs.Words.{◌≡◌, ◌+◌, Bool, true, false, not, List, [], ◌∷◌, ◌++◌, Option, Some, None, is_none, inl, inr, refl, sym, ap, ◌∙◌, arith, cons_option, filter, list_any, cases_Bool, or_left, or_right, filter_map-append, list_any-append, Diner, State, Thinking, Hungry, Eating, Task, Table, has_end, keeps_waiting, neighbours_in, neighbours_of, other_end, same_task, state_in, state_of, has_to_wait, newcomer, refusal_of, table_after_call, without, absent_differs, found, same_task-true, stands_before-append, stands_before-without, state_in-append_other, state_in-without_other}
 use Rattle.dine_words.specs.declared.call.Call.TheVariants as call
 use Rattle.dine_serve.proofs.Ordered.{newcomer-absent, not_hungry, states-differ, thinks}
 use Rattle.dine_serve.proofs.Waiting.{any-more, is_none-None, waits-if, waits-only}
@@ -57,31 +57,7 @@ any-behind q (Some w) rest h = or_right (q w) (list_any q rest) h
 -- where a neighbour passes a test, one passes another that each passes then, if it isn't the one whose conflicts end
 kept-left : (p q : Task → Bool) (v u : Task) → same_task v u ≡ false → ((x : Task) → p x ≡ true → (same_task v x ≡ false) × (q x ≡ true)) → (cs : List (Task × Task)) → list_any p (neighbours_in cs u) ≡ true → list_any q (neighbours_in (filter (λ c. not (has_end v c)) cs) u) ≡ true
 kept-left p q v u vu on [] h = h
-kept-left p q v u vu on (c ∷ cs) h = elim (cases_Bool (same_task u c.0)) [
-  | inl first ↦ elim (cases_Bool (p c.1)) [
-    | inr fails ↦ skip (kept-left p q v u vu on cs (rw (first, fails) at h))
-    | inl passes ↦
-        let other = on c.1 passes in
-        let v0 : same_task v c.0 ≡ false = ap (same_task v) (sym (same_task-true u c.0 first)) ∙ vu in
-        rw (v0, other.0, first, other.1) refl
-  ]
-  | inr not_first ↦ elim (cases_Bool (same_task u c.1)) [
-    | inr neither ↦ skip (kept-left p q v u vu on cs (rw (not_first, neither) at h))
-    | inl second ↦ elim (cases_Bool (p c.0)) [
-      | inr fails ↦ skip (kept-left p q v u vu on cs (rw (not_first, second, fails) at h))
-      | inl passes ↦
-          let other = on c.0 passes in
-          let v1 : same_task v c.1 ≡ false = ap (same_task v) (sym (same_task-true u c.1 second)) ∙ vu in
-          rw (other.0, v1, not_first, second, other.1) refl
-    ]
-  ]
-]
-  where
-    skip : list_any q (neighbours_in (filter (λ d. not (has_end v d)) cs) u) ≡ true → list_any q (neighbours_in (filter (λ d. not (has_end v d)) (c ∷ cs)) u) ≡ true
-    skip more = elim (cases_Bool (has_end v c)) [
-      | inl gone ↦ rw gone more
-      | inr stays ↦ rw stays (any-behind q (other_end u c) (neighbours_in (filter (λ d. not (has_end v d)) cs) u) more)
-    ]
+kept-left p q v u vu on (c ∷ cs) h = grind (arith, on c.0, on c.1, same_task-true u c.0, same_task-true u c.1, any-behind q (other_end u c), kept-left p q v u vu on cs)
 
 -- whoever waited waits on where somebody leaves, who thinks and so kept nobody waiting
 pub waits-leave : (t : Table) (v u : Task) → has_to_wait t u ≡ true → has_to_wait (table_after_call t (call.Leave v)) u ≡ true

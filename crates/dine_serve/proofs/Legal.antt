@@ -43,13 +43,7 @@ entries_of_journal (e ∷ es) = rw (entry_of_journal e) (ap (λ l. entry_text e 
 done_of_journal : (s : Broker) (pass : ℕ) (deed : Deed) → filter is_of_journal (said_done s pass deed) ≡ map entry_text (entries_done s pass deed)
 done_of_journal s pass (Make c) = entries_of_journal (entries_made s pass c)
 done_of_journal s pass (Cancel u) = refl
-done_of_journal s pass (await u) = elim (cases_Bool (has_to_wait s.table u)) [
-  | inl e ↦ rw e (elim (cases_Bool (is_full s)) [
-    | inl f ↦ rw f refl
-    | inr f ↦ rw f refl
-  ])
-  | inr e ↦ rw e (entries_of_journal (entries_made s pass (call.Begin u)))
-]
+done_of_journal s pass (await u) = grind (arith, entries_of_journal (entries_made s pass (call.Begin u)))
 
 -- to one that has a number
 coming_of_journal : (s : Broker) (pass : ℕ) (deed : Deed) (coming : Coming) → filter is_of_journal (said_coming s pass deed coming) ≡ map entry_text (entries_coming s pass deed coming)

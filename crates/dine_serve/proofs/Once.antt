@@ -61,13 +61,7 @@ same-done s p n deed pass number = by deed
     by : (deed : Deed) → is_first (coming_of (after_deed s p n deed).receipts pass number) ≡ is_first (coming_of s.receipts pass number)
     by (Make c) = made c
     by (Cancel u) = refl
-    by (await u) = elim (cases_Bool (has_to_wait s.table u)) [
-      | inl e ↦ rw e (elim (cases_Bool (is_full s)) [
-        | inl f ↦ rw f refl
-        | inr f ↦ rw f refl
-      ])
-      | inr e ↦ rw e (made (call.Begin u))
-    ]
+    by (await u) = grind (arith, made (call.Begin u))
 
 -- ---- what doesn't come for the first time never does again
 

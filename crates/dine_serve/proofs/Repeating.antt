@@ -45,13 +45,7 @@ kept-entries (e ∷ es) = rw (no_repeat (entry_text e) (entry_of_journal e)) (ap
 kept-done : (s : Broker) (pass : ℕ) (deed : Deed) → filter is_no_repeat (said_done s pass deed) ≡ said_done s pass deed
 kept-done s pass (Make c) = kept-entries (entries_made s pass c)
 kept-done s pass (Cancel u) = refl
-kept-done s pass (await u) = elim (cases_Bool (has_to_wait s.table u)) [
-  | inl e ↦ rw e (elim (cases_Bool (is_full s)) [
-    | inl f ↦ rw f refl
-    | inr f ↦ rw f refl
-  ])
-  | inr e ↦ rw e (kept-entries (entries_made s pass (call.Begin u)))
-]
+kept-done s pass (await u) = grind (arith, kept-entries (entries_made s pass (call.Begin u)))
 
 -- so it is with a request with a number
 kept-coming : (s : Broker) (pass : ℕ) (deed : Deed) (coming : Coming) → is_again coming ≡ false → filter is_no_repeat (said_coming s pass deed coming) ≡ said_coming s pass deed coming

@@ -53,27 +53,23 @@ withdrawn-waits t v u waits vu apart =
 
 -- ---- a conflict ends
 
--- the neighbours of a task are those that they were where a conflict between two others ends
-same-neighbours : (v w u : Task) → same_task v u ≡ false → same_task w u ≡ false → (cs : List (Task × Task)) → neighbours_in (filter (λ c. not (is_between v w c)) cs) u ≡ neighbours_in cs u
-same-neighbours v w u vu wu [] = refl
-same-neighbours v w u vu wu (c ∷ cs) = elim (cases_Bool (is_between v w c)) [
-  | inr e ↦ rw e (ap (cons_option (other_end u c)) (same-neighbours v w u vu wu cs))
-  | inl e ↦ elim (or_cases (same_task v c.0 && same_task w c.1) (same_task v c.1 && same_task w c.0) e) [
-    | inl way ↦
-        let parts = and_parts (same_task v c.0) (same_task w c.1) way in
-        let first : same_task u c.0 ≡ false = off v c.0 parts.0 vu in
-        let second : same_task u c.1 ≡ false = off w c.1 parts.1 wu in
-        rw (e, first, second) (same-neighbours v w u vu wu cs)
-    | inr way ↦
-        let parts = and_parts (same_task v c.1) (same_task w c.0) way in
-        let first : same_task u c.0 ≡ false = off w c.0 parts.1 wu in
-        let second : same_task u c.1 ≡ false = off v c.1 parts.0 vu in
-        rw (e, first, second) (same-neighbours v w u vu wu cs)
-  ]
+-- a conflict between two others has no neighbour of a task
+not-between : (v w u : Task) → same_task v u ≡ false → same_task w u ≡ false → (c : Task × Task) → is_between v w c ≡ true → other_end u c ≡ None
+not-between v w u vu wu c between = elim (or_cases (same_task v c.0 && same_task w c.1) (same_task v c.1 && same_task w c.0) between) [
+  | inl way ↦ let parts = and_parts (same_task v c.0) (same_task w c.1) way in rw (off v c.0 parts.0 vu, off w c.1 parts.1 wu) refl
+  | inr way ↦ let parts = and_parts (same_task v c.1) (same_task w c.0) way in rw (off w c.0 parts.1 wu, off v c.1 parts.0 vu) refl
 ]
   where
     off : (x y : Task) → same_task x y ≡ true → same_task x u ≡ false → same_task u y ≡ false
     off x y is xu = ap (same_task u) (sym (same_task-true x y is)) ∙ same_task-sym u x ∙ xu
+
+-- the neighbours of a task are those that they were where it ends
+same-neighbours : (v w u : Task) → same_task v u ≡ false → same_task w u ≡ false → (cs : List (Task × Task)) → neighbours_in (filter (λ c. not (is_between v w c)) cs) u ≡ neighbours_in cs u
+same-neighbours v w u vu wu [] = refl
+same-neighbours v w u vu wu (c ∷ cs) = elim (cases_Bool (is_between v w c)) [
+  | inr e ↦ rw e (ap (cons_option (other_end u c)) (same-neighbours v w u vu wu cs))
+  | inl e ↦ rw e (same-neighbours v w u vu wu cs ∙ ap (λ o. cons_option o (neighbours_in cs u)) (sym (not-between v w u vu wu c e)))
+]
 
 -- whoever waited waits on where the conflict of two others ends
 separated-waits : (t : Table) (v w u : Task) → has_to_wait t u ≡ true → same_task v u ≡ false → same_task w u ≡ false → has_to_wait (record t { conflicts = filter (λ c. not (is_between v w c)) t.conflicts }) u ≡ true

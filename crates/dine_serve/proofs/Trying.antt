@@ -19,19 +19,12 @@ record ComesOfOne (t now : Table) (xs : List Await) (a : Await) (ys : List Await
 
 -- it begins first
 comes_of_one : (t now : Table) (xs : List Await) (a : Await) (ys : List Await) (receipts had : List (Option Receipt)) → AllWait t xs → AllWait now xs → has_to_wait t a.task ≡ false → now ≡ table_after_call t (call.Begin a.task) → had ≡ settled receipts a (entry_in t a.pass (call.Begin a.task)) → ComesOfOne t now xs a ys receipts had
-comes_of_one t now [] a ys receipts had waits still due made put =
-    let next = table_after_call t (call.Begin a.task) in
-    let entry = entry_in t a.pass (call.Begin a.task) in
-    let table : table_begun t (a ∷ ys) ≡ table_begun next ys = rw due refl in
-    let left : still_waiting t (a ∷ ys) ≡ still_waiting next ys = rw due refl in
-    let kept : receipts_begun t (a ∷ ys) receipts ≡ receipts_begun next ys (settled receipts a entry) = rw due refl in
-    let begun : begun_from t (a ∷ ys) ≡ entry ∷ begun_from next ys = rw due refl in
-    record {
-      table = ap (λ x. table_begun x ys) made ∙ sym table;
-      left = ap (λ x. still_waiting x ys) made ∙ sym left;
-      kept = ap (λ x. receipts_begun x ys had) made ∙ ap (receipts_begun next ys) put ∙ sym kept;
-      begun = begun ∙ ap (λ x. entry ∷ begun_from x ys) (sym made);
-    }
+comes_of_one t now [] a ys receipts had waits still due made put = record {
+  table = rw (due, made) refl;
+  left = rw (due, made) refl;
+  kept = rw (due, made, put) refl;
+  begun = rw (due, made) refl;
+}
 comes_of_one t now (x ∷ xs) a ys receipts had waits still due made put =
     let of = comes_of_one t now xs a ys receipts had waits.1 still.1 due made put in
     record { table = rw (waits.0, still.0) of.table; left = rw (waits.0, still.0) (ap (λ l. x ∷ l) of.left); kept = rw (waits.0, still.0) of.kept; begun = rw (waits.0, still.0) of.begun }

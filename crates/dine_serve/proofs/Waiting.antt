@@ -18,16 +18,8 @@ pub record Waits (t : Table) (u : Task) : Type 0 where
   pub kept : is_kept t u ≡ true
 
 -- a task whose begin has to wait is hungry, and is kept waiting
-waits-by : (t : Table) (u : Task) (o : Option State) (k : Bool) → state_of t u ≡ o → is_kept t u ≡ k → has_to_wait t u ≡ true → Waits t u
-waits-by t u None k st is waits = absurd (let no_wait : false ≡ true = rw st at waits in cc)
-waits-by t u (Some Thinking) k st is waits = absurd (let no_wait : false ≡ true = rw st at waits in cc)
-waits-by t u (Some Eating) k st is waits = absurd (let no_wait : false ≡ true = rw st at waits in cc)
-waits-by t u (Some Hungry) false st is waits = absurd (let no_wait : false ≡ true = rw (st, is) at waits in cc)
-waits-by t u (Some Hungry) true st is waits = record { hungry = st; kept = is }
-
--- the same, with its state and its neighbours as they are
 pub waits-only : (t : Table) (u : Task) → has_to_wait t u ≡ true → Waits t u
-waits-only t u waits = waits-by t u (state_of t u) (is_kept t u) refl refl waits
+waits-only t u waits = record { hungry = grind arith; kept = grind arith }
 
 -- whoever has to wait is hungry
 pub who_waits-hungry : (t : Table) (u : Task) → has_to_wait t u ≡ true → state_of t u ≡ Some Hungry
