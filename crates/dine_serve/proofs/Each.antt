@@ -2,12 +2,7 @@
 use Rattle.dine_serve.proofs.Words.{ℕ, List, [], ◌∷◌, ◌++◌, inl, inr, cases_Bool, AllByRecursion, Diner, Task, Table, stands_before, has_to_wait, table_after_call, Await, is_await_of, noted, still_waiting, taken_back}
 use Rattle.dine_words.specs.declared.call.Call.TheVariants as call
 
--- what follows from it holds of each
-pub each-on : (P Q : Await → Type 0) → ((a : Await) → P a → Q a) → (xs : List Await) → AllByRecursion P xs → AllByRecursion Q xs
-each-on P Q on [] each = tt
-each-on P Q on (x ∷ xs) each = (on x each.0, each-on P Q on xs each.1)
-
--- so do both of two that hold of each
+-- both of two hold of each that hold of each
 pub each-and : (P Q : Await → Type 0) (xs : List Await) → AllByRecursion P xs → AllByRecursion Q xs → AllByRecursion (λ x. P x × Q x) xs
 each-and P Q [] p q = tt
 each-and P Q (x ∷ xs) p q = ((p.0, q.0), each-and P Q xs p.1 q.1)

@@ -1,7 +1,7 @@
 -- The begin that is due first: what is known of those in front of it, and how it is found.
-use Rattle.dine_serve.proofs.Words.{◌≡◌, ℕ, eqb, Bool, true, false, List, [], ◌∷◌, ◌++◌, drop, Option, Some, None, IfSome, is_some, inl, inr, refl, sym, ap, ◌∙◌, subst, arith, eq-eqb, cases_Bool, eqb-true, nat_tests, filter-append, AllByRecursion, filter, Call, Diner, Task, Table, stands_before, state_in, state_of, has_to_wait, same_slot, same_task-true, Await, AllWaitBut, AreQueued, AreSeated, Changes, IsDueAt, IsRetried, Leads, LeadsAt, LeadsOn, Waiters, first_due, first_of, in_order, may_have_ended, queue_at, waits_at, AllWait, InOrder, NoneBefore}
+use Rattle.dine_serve.proofs.Words.{◌≡◌, ℕ, eqb, Bool, true, false, List, [], ◌∷◌, ◌++◌, drop, Option, Some, None, IfSome, is_some, inl, inr, refl, sym, ap, ◌∙◌, subst, arith, eq-eqb, cases_Bool, eqb-true, nat_tests, filter-append, AllByRecursion, filter, Call, Diner, Task, Table, stands_before, state_in, state_of, has_to_wait, same_slot, same_task-true, Await, AllWaitBut, AreQueued, AreSeated, Changes, IsDueAt, IsRetried, Leads, LeadsAt, LeadsOn, Waiters, first_due, first_of, in_order, may_have_ended, queue_at, waits_at, AllWait, InOrder, NoneBefore, each-on}
 use Rattle.std.specs.List.{IsDistinct}
-use Rattle.dine_serve.proofs.Each.{each-append, each-both, each-on}
+use Rattle.dine_serve.proofs.Each.{each-append, each-both}
 use Rattle.dine_serve.proofs.Queueing.{before-itself, one_task}
 
 -- ---- lists

@@ -1,11 +1,11 @@
 -- What a broker keeps of those who wait: at the opening, where one is noted or taken back, and after a call.
-use Rattle.dine_serve.proofs.Words.{◌≡◌, ◌⊎◌, ℕ, suc, ◌+◌, ◌-◌, Bool, true, false, if◌then◌else◌, List, [], ◌∷◌, ◌++◌, length, Option, is_some, inl, inr, refl, sym, ap, ◌∙◌, subst, arith, Call, Task, may_end_waits, Table, has_to_wait, reply_of, table_after_call, IsSound, Await, Receipt, AreQueued, AreSeated, Changes, IsKept, SameQueues, Waiters, in_order, queue_at, state_in, Broker, after_making, AllWait, InOrder, is_noted, noted, receipts_begun, still_waiting, table_begun, taken_back}
+use Rattle.dine_serve.proofs.Words.{◌≡◌, ◌⊎◌, ℕ, suc, ◌+◌, ◌-◌, Bool, true, false, if◌then◌else◌, List, [], ◌∷◌, ◌++◌, length, Option, is_some, inl, inr, refl, sym, ap, ◌∙◌, subst, arith, Call, Task, may_end_waits, Table, has_to_wait, reply_of, table_after_call, IsSound, Await, Receipt, AreQueued, AreSeated, Changes, IsKept, SameQueues, Waiters, in_order, queue_at, state_in, Broker, after_making, AllWait, InOrder, is_noted, noted, receipts_begun, still_waiting, table_begun, taken_back, each-on}
 use Rattle.dine_serve.proofs.Gathered.{told}
 use Rattle.dine_serve.proofs.Ordered.{in_order-noted, in_order-taken_back}
 use Rattle.dine_serve.proofs.Queueing.{back-length, back-none, back-queued, noted-at, noted-length, noted-queued}
 use Rattle.dine_serve.proofs.Retrying.{seated-waits}
 use Rattle.dine_serve.proofs.Staying.{may_end-waits}
-use Rattle.dine_serve.proofs.Each.{each-back, each-noted, each-on}
+use Rattle.dine_serve.proofs.Each.{each-back, each-noted}
 
 -- those who wait stand so, and are kept
 pub record Keeps (t : Table) (w : Waiters) (xs : List Await) : Type 0 where

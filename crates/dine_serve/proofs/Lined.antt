@@ -2,22 +2,18 @@
 use Rattle.dine_serve.proofs.Words.{◌≡◌, ℕ, Bool, true, false, List, [], ◌++◌, map, Option, Some, None, Result, Ok, Err, refl, sym, ap, ◌∙◌, subst, append_assoc, append-nil, IsPrefix, entry_text, text_of_lines, Entry, Table, has_to_wait, Coming, First, Again, Stale, Foreign, Deed, Make, Cancel, Request, Ask, Order, Numbered, LineFault, HaveTheirLines, IsPartlySaid, IsUndone, StopsAtAwait, StopsAtComing, StopsAtDeed, StopsAtReading, coming_of, Broker, entries_by, entries_coming, entries_done, is_full}
 use Rattle.dine_serve.specs.declared.request.Deed.TheVariants.{Await as await}
 
--- where the table is as it was, no call was made
-no_call : (t t' : Table) (entries : List Entry) (before after : List ℕ) → t' ≡ t → IsPrefix before after → HaveTheirLines t t' entries before after
-no_call t t' entries before after same begins = record {
+-- the table stands, so no call was made, and a part of the answer may have been appended
+partly : (s t s' : Broker) (entries : List Entry) (before after : List ℕ) → t.table ≡ s.table → IsPartlySaid t s' before after → HaveTheirLines s.table s'.table entries before after
+partly s t s' entries before after same h = record {
   made = [];
   front = (entries, refl);
-  table = same;
-  lines = subst (λ l. IsPrefix l after) (sym (append-nil before)) begins;
+  table = ap (λ (b : Broker). b.table) h.0 ∙ same;
+  lines = subst (λ l. IsPrefix l after) (sym (append-nil before)) h.1;
 }
 
 -- nothing was done, and nothing said
 undone : (s s' : Broker) (entries : List Entry) (before after : List ℕ) → IsUndone s s' before after → HaveTheirLines s.table s'.table entries before after
-undone s s' entries before after h = no_call s.table s'.table entries before after (ap (λ (b : Broker). b.table) h.0) ([], append-nil before ∙ sym h.1)
-
--- the table stands, and a part of the answer may have been appended
-partly : (s t s' : Broker) (entries : List Entry) (before after : List ℕ) → t.table ≡ s.table → IsPartlySaid t s' before after → HaveTheirLines s.table s'.table entries before after
-partly s t s' entries before after same h = no_call s.table s'.table entries before after (ap (λ (b : Broker). b.table) h.0 ∙ same) h.1
+undone s s' entries before after h = partly s s s' entries before after refl (h.0, ([], append-nil before ∙ sym h.1))
 
 -- a begin that is awaited
 await_lines : (waits full : Bool) (s s' : Broker) (entries : List Entry) (before after : List ℕ) → StopsAtAwait waits full s s' before after → HaveTheirLines s.table s'.table entries before after

@@ -1,8 +1,8 @@
 -- Those who wait stand in the order of last meals.
-use Rattle.dine_serve.proofs.Words.{◌≡◌, ℕ, eqb, true, false, List, [], ◌∷◌, Option, Some, None, is_none, inl, inr, Result, Ok, Err, refl, sym, ap, ◌∙◌, arith, nat_tests, cases_Bool, Call, Diner, State, Thinking, Hungry, Eating, Task, Table, same_task, stands_before, state_in, state_of, changed_by, has_to_wait, newcomer, refusal_of, table_after_call, without, absent_differs, found, free_slot-unused, is_used, same_task-true, stands_before-append, stands_before-with_state, stands_before-without, Await, LineFault, RequestAnswer, Coming, First, Again, Stale, Foreign, Deed, Make, Cancel, Request, Ask, Order, Numbered, coming_of, reading_of, Broker, after_coming, after_deed, after_making, after_reading, answer_done, counted, is_full, received, standing_from, AllWait, InOrder, is_await_of, noted, still_waiting, table_begun, taken_back}
+use Rattle.dine_serve.proofs.Words.{◌≡◌, ℕ, eqb, true, false, List, [], ◌∷◌, Option, Some, None, is_none, inl, inr, Result, Ok, Err, refl, sym, ap, ◌∙◌, arith, nat_tests, cases_Bool, Call, Diner, State, Thinking, Hungry, Eating, Task, Table, same_task, stands_before, state_in, state_of, changed_by, has_to_wait, newcomer, refusal_of, table_after_call, with_state, without, absent_differs, found, free_slot-unused, is_used, same_task-true, stands_before-append, stands_before-with_state, stands_before-without, Await, LineFault, RequestAnswer, Coming, First, Again, Stale, Foreign, Deed, Make, Cancel, Request, Ask, Order, Numbered, coming_of, reading_of, Broker, after_coming, after_deed, after_making, after_reading, answer_done, counted, is_full, received, standing_from, AllWait, InOrder, is_await_of, noted, still_waiting, table_begun, taken_back, each-on}
 use Rattle.dine_words.specs.declared.call.Call.TheVariants as call
 use Rattle.dine_serve.specs.declared.request.Deed.TheVariants.{Await as await}
-use Rattle.dine_serve.proofs.Each.{each-and, each-back, each-noted, each-on, each-still}
+use Rattle.dine_serve.proofs.Each.{each-and, each-back, each-noted, each-still}
 use Rattle.dine_serve.proofs.Waiting.{all-left-wait, is_none-None, who_waits-hungry}
 
 -- ---- the order of last meals is one
@@ -49,12 +49,16 @@ in_order-still order t (a ∷ others) all = elim (cases_Bool (has_to_wait t a.ta
   | inr e ↦ rw e (in_order-still order (table_after_call t (call.Begin a.task)) others all.1)
 ]
 
--- a begin changes no order
-pub begin-order : (t : Table) (v a b : Task) → stands_before (table_after_call t (call.Begin v)).order a b ≡ stands_before t.order a b
-begin-order t v a b = elim (cases_Bool (is_none (refusal_of t (call.Begin v)))) [
-  | inl e ↦ rw e (stands_before-with_state Eating v a b t.order)
-  | inr e ↦ rw e refl
+-- a begin leaves the table, or its task eats
+pub begun-table : (P : Table → Type 0) (t : Table) (v : Task) → P t → P (record t { order = with_state Eating v t.order }) → P (table_after_call t (call.Begin v))
+begun-table P t v same eats = elim (cases_Bool (is_none (refusal_of t (call.Begin v)))) [
+  | inl e ↦ rw e eats
+  | inr e ↦ rw e same
 ]
+
+-- it changes no order
+pub begin-order : (t : Table) (v a b : Task) → stands_before (table_after_call t (call.Begin v)).order a b ≡ stands_before t.order a b
+begin-order t v a b = begun-table (λ x. stands_before x.order a b ≡ stands_before t.order a b) t v refl (stands_before-with_state Eating v a b t.order)
 
 -- nor do all the begins that are made
 begun-order : (t : Table) (others : List Await) (a b : Task) → stands_before (table_begun t others).order a b ≡ stands_before t.order a b

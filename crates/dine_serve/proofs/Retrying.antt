@@ -1,11 +1,11 @@
 -- What is kept of those who wait: after a call, and while those are made that wait no longer.
-use Rattle.dine_serve.proofs.Words.{◌≡◌, suc, ◌-◌, true, false, not, List, [], ◌∷◌, ◌++◌, length, drop, Some, None, is_none, is_some, inl, inr, refl, sym, ap, ◌∙◌, subst, arith, cases_Bool, filter-append, AllByRecursion, filter, Call, Diner, State, Thinking, Hungry, Eating, Task, Table, same_task, stands_before, state_in, state_of, changed_by, has_to_wait, newcomer, refusal_of, refusal_unless, table_after_call, with_state, without, IsSound, absent_differs, diner_put_in-task, found, or_else-None, sound_after_call, stands_before-other_way, state_in-append_other, state_in-with_state_same, state_in-without_other, Await, AllWaitBut, AreHeld, AreQueued, AreSeated, Changes, IsKept, IsNext, IsRetried, Waiters, first_due, first_of, in_order, may_have_ended, queue_at, waits_at, AllWait, InOrder, NoneBefore}
+use Rattle.dine_serve.proofs.Words.{◌≡◌, suc, ◌-◌, true, false, not, List, [], ◌∷◌, ◌++◌, length, drop, Some, None, is_none, is_some, inl, inr, refl, sym, ap, ◌∙◌, subst, arith, cases_Bool, filter-append, AllByRecursion, filter, Call, Diner, State, Thinking, Hungry, Eating, Task, Table, same_task, stands_before, state_in, state_of, changed_by, has_to_wait, newcomer, refusal_of, refusal_unless, table_after_call, with_state, without, IsSound, absent_differs, diner_put_in-task, found, or_else-None, sound_after_call, stands_before-other_way, state_in-append_other, state_in-with_state_same, state_in-without_other, Await, AllWaitBut, AreHeld, AreQueued, AreSeated, Changes, IsKept, IsNext, IsRetried, Waiters, first_due, first_of, in_order, may_have_ended, queue_at, waits_at, AllWait, InOrder, NoneBefore, each-on}
 use Rattle.std.proofs.lemmas.List.{length-append}
 use Rattle.dine_words.specs.declared.call.Call.TheVariants as call
-use Rattle.dine_serve.proofs.Each.{each-and, each-append, each-both, each-on}
+use Rattle.dine_serve.proofs.Each.{each-and, each-append, each-both}
 use Rattle.dine_serve.proofs.FirstDue.{Splits, behind-order, due-behind, first-passes, none-front, splits, taken-queued, without-order}
 use Rattle.dine_serve.proofs.Gathered.{told}
-use Rattle.dine_serve.proofs.Ordered.{begin-order, eats, in_order-called, in_order-same, newcomer-absent, not_hungry, thinks}
+use Rattle.dine_serve.proofs.Ordered.{begin-order, begun-table, eats, in_order-called, in_order-same, newcomer-absent, not_hungry, thinks}
 use Rattle.dine_serve.proofs.Queueing.{one_task}
 use Rattle.dine_serve.proofs.Staying.{all-but}
 use Rattle.dine_serve.proofs.Waiting.{is_none-None, waits-begin, who_waits-hungry}
@@ -35,24 +35,15 @@ module _ (t : Table) (v : Task) where
 
   -- it moves nobody
   pub in_order-begin : (rows : List (List Await)) → in_order begun.order rows ≡ in_order t.order rows
-  in_order-begin rows = elim (cases_Bool (is_none (refusal_of t (call.Begin v)))) [
-    | inl e ↦ rw e (in_order-with_state Eating v t.order rows)
-    | inr e ↦ rw e refl
-  ]
+  in_order-begin rows = begun-table (λ x. in_order x.order rows ≡ in_order t.order rows) t v refl (in_order-with_state Eating v t.order rows)
 
   -- all go on to be present
   seated-begin : (u : Task) → is_some (state_in t.order u) ≡ true → is_some (state_in begun.order u) ≡ true
-  seated-begin u h = elim (cases_Bool (is_none (refusal_of t (call.Begin v)))) [
-    | inl e ↦ rw e (seated-with_state Eating v u t.order h)
-    | inr e ↦ rw e h
-  ]
+  seated-begin u h = begun-table (λ x. is_some (state_in x.order u) ≡ true) t v h (seated-with_state Eating v u t.order h)
 
   -- the conflicts stay, so whose waits another call may have ended stays
   may_end-begin : (c : Call) (u : Task) → may_have_ended begun c u ≡ may_have_ended t c u
-  may_end-begin c u = elim (cases_Bool (is_none (refusal_of t (call.Begin v)))) [
-    | inl e ↦ rw e (by c)
-    | inr e ↦ rw e refl
-  ]
+  may_end-begin c u = begun-table (λ x. may_have_ended x c u ≡ may_have_ended t c u) t v refl (by c)
     where
       by : (c : Call) → may_have_ended (record t { order = with_state Eating v t.order }) c u ≡ may_have_ended t c u
       by (call.Finish w) = refl

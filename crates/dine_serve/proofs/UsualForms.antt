@@ -5,21 +5,12 @@ use Rattle.dine_serve.specs.declared.request.Deed.TheVariants.{Await as await}
 
 -- ---- a line that begins with a number
 
--- a digit is no blank, and begins no comment
-digit-plain : (b : ℕ) → is_ascii_digit b ≡ true → (is_blank b ≡ false) × ((b == 35) ≡ false)
-digit-plain b h = (grind (arith, nat_tests), grind (arith, nat_tests))
-
 -- such a line isn't passed over
 counts : (most : ℕ) (line : List ℕ) (found : ℕ × List ℕ) → number_at most line ≡ Some found → is_passed_over (words_of line) ≡ false
 counts most [] found h = absurd (let none : ◌≡◌ {A = Option (ℕ × List ℕ)} None (Some found) = h in cc)
-counts most (b ∷ bs) found h = elim (cases_Bool (begins_with_number (b ∷ bs) && nat_le (digits_after 0 (b ∷ bs)).0 most)) [
-  | inr e ↦ absurd (let none : ◌≡◌ {A = Option (ℕ × List ℕ)} None (Some found) = rw e at h in cc)
-  | inl e ↦
-      let begins : begins_with_number (b ∷ bs) ≡ true = (and_parts (begins_with_number (b ∷ bs)) _ e).0 in
-      let digit : is_ascii_digit b ≡ true = (and_parts (is_ascii_digit b) _ begins).0 in
-      let plain = digit-plain b digit in
-      first plain.0 plain.1 (pieces_of is_blank bs) refl
-]
+counts most (b ∷ bs) found h =
+    let digit : is_ascii_digit b ≡ true = grind arith in
+    first (grind (arith, nat_tests)) (grind (arith, nat_tests)) (pieces_of is_blank bs) refl
   where
     first : is_blank b ≡ false → (b == 35) ≡ false → (pieces : List (List ℕ)) → pieces_of is_blank bs ≡ pieces → is_passed_over (words_of (b ∷ bs)) ≡ false
     first filled other [] is = rw (filled, is) other

@@ -20,6 +20,7 @@ pub use Rattle.dine_serve.specs.Waits.{AllWait, InOrder, NoneBefore, awaits_of, 
 pub use Rattle.dine_streams.proofs.CallerLemmas.{IsShort, begun-on, begun-pieces, ended-pieces, short-both, short-decimal, short-more, short-opening, short-task, on_ok, ran-ends, ran-gave_up, ran-well, takes-line}
 pub use Rattle.dine_streams.specs.Handed.{handed}
 pub use Rattle.dine_streams.specs.Lines.{kept_of, seen_of}
+pub use Rattle.dine_table.proofs.Lists.{AllByRecursion-weaker as each-on}
 pub use Rattle.dine_table.proofs.CallerLemmas.{absent_differs, conflict_either_way, diner_put_in-task, found, free_slot-unused, is_used, neighbours_exactly, one_in_slot, or_else-None, same_task-refl, same_task-sym, same_task-true, slice_get-set_other, slice_get-set_same, sound_after_call, stands_before-append, stands_before-other_way, stands_before-with_state, stands_before-without, state_in-append_other, state_in-with_state_other, state_in-with_state_same, state_in-without_other}
 pub use Rattle.dine_table.specs.Calls.{acceptance_of, changed_by, moved_last, newcomer, refusal_of, refusal_unless, with_state, without}
 pub use Rattle.dine_table.specs.History.{IsLegalFrom}
