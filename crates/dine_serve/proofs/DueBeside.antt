@@ -69,11 +69,10 @@ at_neighbour P v w (c ∷ cs) (r ∷ rs) e all beside =
 none-there : (slots slot : ℕ) (rs : List ForkRecord) → book.EndsAreSlots slots rs → slots ≤ slot → book.slot_list slot rs ≡ []
 none-there slots slot [] ends past = refl
 none-there slots slot (r ∷ rs) ends past =
-    let off : book.is_end slot r ≡ false = apart r.first r.second ends.1 ends.2 in
+    let first : r.first < slots = ends.1 in
+    let second : r.second < slots = ends.2 in
+    let off : book.is_end slot r ≡ false = grind (arith, nat_tests) in
     rw off (none-there slots slot rs ends.3 past)
-  where
-    apart : (a b : ℕ) → a < slots → b < slots → (eqb slot a || eqb slot b) ≡ false
-    apart a b h k = grind (arith, nat_tests, past)
 
 -- where what was found leads those at the other ends of all records of v's slot, it leads those of v's neighbours
 pub walk-leads : (t : Table) (v : Task) (rows : List (List Await)) (found : Option Await) (rs : List ForkRecord) → map book.ends_of rs ≡ map slots_of t.conflicts → AllByRecursion (LeadsOther t rows found v.slot) (book.slot_list v.slot rs) → (u : Task) → are_in_conflict t v u ≡ true → LeadsAt t rows found u.slot

@@ -1,5 +1,5 @@
 -- The begin that is due first: what is known of those in front of it, and how it is found.
-use Rattle.dine_serve.proofs.Words.{◌≡◌, ℕ, eqb, Bool, true, false, List, [], ◌∷◌, ◌++◌, drop, Option, Some, None, IfSome, is_some, inl, inr, refl, sym, ap, ◌∙◌, subst, arith, eq-eqb, cases_Bool, eqb-true, nat_tests, filter-append, AllByRecursion, filter, Call, Diner, Task, Table, stands_before, state_in, state_of, has_to_wait, same_slot, same_task-true, Await, AllWaitBut, AreQueued, AreSeated, Changes, IsDueAt, IsRetried, Leads, LeadsAt, LeadsOn, Waiters, first_due, first_of, in_order, may_have_ended, queue_at, waits_at, AllWait, InOrder, NoneBefore, each-on}
+use Rattle.dine_serve.proofs.Words.{◌≡◌, ℕ, eqb, Bool, true, false, List, [], ◌∷◌, ◌++◌, drop, Option, Some, None, IfSome, is_some, inl, inr, refl, sym, ap, ◌∙◌, subst, arith, eq-eqb, cases_Bool, true_from_ne_false, eqb-true, nat_tests, filter-append, AllByRecursion, filter, Call, Diner, Task, Table, stands_before, state_in, state_of, has_to_wait, same_slot, same_task-true, Await, AllWaitBut, AreQueued, AreSeated, Changes, IsDueAt, IsRetried, Leads, LeadsAt, LeadsOn, Waiters, first_due, first_of, in_order, may_have_ended, queue_at, waits_at, AllWait, InOrder, NoneBefore, each-on}
 use Rattle.std.specs.List.{IsDistinct}
 use Rattle.dine_serve.proofs.Each.{each-append, each-both}
 use Rattle.dine_serve.proofs.Queueing.{before-itself, one_task}
@@ -155,13 +155,10 @@ module _ (t : Table) (w : Waiters) (c : Call) (r : IsRetried t c w) where
 
     -- its wait may have ended
     may-end : may_have_ended t c a.task ≡ true
-    may-end = elim (cases_Bool (may_have_ended t c a.task)) [
-      | inl e ↦ e
-      | inr e ↦
-          let each = subst (AllWaitBut t c) s.all r.waits in
-          let waits = (each-append (λ x. may_have_ended t c x.task ≡ false → has_to_wait t x.task ≡ true) s.front (a ∷ s.back) each).1.0 e in
-          absurd (let two : true ≡ false = sym waits ∙ s.due in cc)
-    ]
+    may-end = true_from_ne_false (may_have_ended t c a.task) (λ e.
+        let each = subst (AllWaitBut t c) s.all r.waits in
+        let waits = (each-append (λ x. may_have_ended t c x.task ≡ false → has_to_wait t x.task ≡ true) s.front (a ∷ s.back) each).1.0 e in
+        let two : true ≡ false = sym waits ∙ s.due in cc)
 
     -- what leads it, and is due first at its own slot, is it
     led : (found : Option Await) → IfSome found (IsDueAt t w.rows) → Leads t.order found a.task → found ≡ Some a

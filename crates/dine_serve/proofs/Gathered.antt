@@ -37,8 +37,7 @@ first-first d ds (x ∷ xs) own order = elim (cases_Bool (waits_at d.task.slot x
   | inr e ↦
       let none = none-behind d ds x.task xs (another d x e) own.1 order.0 in
       let rest : xs ≡ filter (waits_at d.task.slot) xs ++ elsewhere d.task.slot xs = first-first d ds xs own.1 order.1 in
-      let all : xs ≡ elsewhere d.task.slot xs = rest ∙ ap (λ l. l ++ elsewhere d.task.slot xs) none in
-      rw e (rw none (ap (λ l. x ∷ l) all))
+      rw e (rw none (ap (λ l. x ∷ l) (rest ∙ ap (λ l. l ++ elsewhere d.task.slot xs) none)))
 ]
 
 -- ---- the others

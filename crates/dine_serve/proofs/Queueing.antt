@@ -38,10 +38,7 @@ module _ (order : List Diner) (apart : IsDistinct same_slot order) (a : Await) (
         let own : eqb a.task.slot a.task.slot ≡ true = eq-eqb a.task.slot a.task.slot refl in
         let none : filter (waits_at a.task.slot) (b ∷ bs) ≡ [] = none-past b.task (b ∷ bs) e seated (before-itself order b.task, ordered.0) in
         rw e (rw own (ap (λ l. a ∷ l) none ∙ sym (ap (λ l. l ++ a ∷ []) none)))
-    | inr e ↦ rw e (elim (cases_Bool (waits_at a.task.slot b)) [
-      | inl f ↦ rw f (ap (λ l. b ∷ l) (noted-own bs seated.1 ordered.1))
-      | inr f ↦ rw f (noted-own bs seated.1 ordered.1)
-    ])
+    | inr e ↦ let rest = noted-own bs seated.1 ordered.1 in grind (arith, e, rest)
   ]
 
   -- elsewhere nobody is noted

@@ -222,17 +222,7 @@ module _ (t : Table) (c : Call) (w : Waiters) (k : IsKept t w) where
   held' : AreHeld after.order w.rows
   held' = record { seated = subst (AreSeated after.order) (sym called-order) seated'; queued = subst (AreQueued w.rows) (sym called-order) k.held.queued }
 
-  -- where it ended no wait they are kept
-  pub kept-called : AllWait after waiting → IsKept after w
-  kept-called waits = record {
-    sound = sound';
-    all_wait = subst (AllWait after) (sym called-order) waits;
-    held = held';
-    ordered = subst (InOrder after.order) (sym called-order) ordered';
-    counted = k.counted ∙ ap length (sym called-order);
-  }
-
-  -- and else those are made that wait no longer
+  -- those are made that wait no longer
   pub retried-called : IsRetried after c w
   retried-called = record {
     sound = sound';
@@ -241,3 +231,7 @@ module _ (t : Table) (c : Call) (w : Waiters) (k : IsKept t w) where
     counted = k.counted ∙ ap length (sym called-order);
     waits = subst (AllWaitBut after c) (sym called-order) (all-but t c waiting k.all_wait);
   }
+
+  -- and where it ended no wait all are kept
+  pub kept-called : AllWait after waiting → IsKept after w
+  kept-called waits = kept-all after c w retried-called (subst (AllWait after) (sym called-order) waits)

@@ -109,14 +109,13 @@ unended-waits t (call.Begin v) u waits none = waits-begin t v u waits
 pub all-but : (t : Table) (c : Call) (others : List Await) → AllWait t others → AllWaitBut (table_after_call t c) c others
 all-but t c others all = each-on (λ x. has_to_wait t x.task ≡ true) (λ x. may_have_ended (table_after_call t c) c x.task ≡ false → has_to_wait (table_after_call t c) x.task ≡ true) (λ x waits none. unended-waits t c x.task waits none) others all
 
--- a call that isn't done, and would be if it were accepted, was refused, and so changed nothing
-undone-same : (t : Table) (c : Call) (o : Option Refusal) → refusal_of t c ≡ o → acceptance_of t c ≡ Done → is_done (reply_of t c) ≡ false → table_after_call t c ≡ t
-undone-same t c None is done none = absurd (let two : true ≡ false = sym (ap is_done done) ∙ rw is at none in cc)
-undone-same t c (Some refusal) is done none = rw is refl
-
--- whoever has to wait still does after it
+-- whoever has to wait still does after a call that isn't done, and would be if it were accepted: it was refused
 undone-waits : (t : Table) (c : Call) (u : Task) → acceptance_of t c ≡ Done → is_done (reply_of t c) ≡ false → has_to_wait t u ≡ true → has_to_wait (table_after_call t c) u ≡ true
-undone-waits t c u done none waits = subst (λ x. has_to_wait x u ≡ true) (sym (undone-same t c (refusal_of t c) refl done none)) waits
+undone-waits t c u done none waits = by (refusal_of t c) refl
+  where
+    by : (o : Option Refusal) → refusal_of t c ≡ o → has_to_wait (table_after_call t c) u ≡ true
+    by None is = absurd (let two : true ≡ false = sym (ap is_done done) ∙ rw is at none in cc)
+    by (Some refusal) is = rw is waits
 
 -- where a call can't have ended a wait, whoever waited waits on
 pub may_end-waits : (t : Table) (c : Call) → may_end_waits c (reply_of t c) ≡ false → (u : Task) → has_to_wait t u ≡ true → has_to_wait (table_after_call t c) u ≡ true

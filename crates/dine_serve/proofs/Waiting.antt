@@ -1,5 +1,5 @@
 -- Whoever has to wait waits on while others grow hungry or begin, and after each line all who are noted have to wait.
-use Rattle.dine_serve.proofs.Words.{◌≡◌, ℕ, ◌+◌, Bool, true, false, List, [], ◌∷◌, Option, Some, None, is_some, is_none, inl, inr, refl, sym, ap, ◌∙◌, subst, arith, list_any, cases_Bool, State, Thinking, Hungry, Eating, Task, Table, keeps_waiting, neighbours_of, same_task, state_in, state_of, has_to_wait, refusal_of, refusal_unless, table_after_call, with_state, found, or_else-None, same_task-true, stands_before-with_state, state_in-with_state_other, state_in-with_state_same, Await, AllWait, awaits_of, begins_of, begun_from, still_waiting, table_begun}
+use Rattle.dine_serve.proofs.Words.{◌≡◌, ℕ, ◌+◌, Bool, true, false, List, [], ◌∷◌, Option, Some, None, is_some, is_none, inl, inr, refl, sym, ap, ◌∙◌, subst, arith, list_any, cases_Bool, false_from_ne_true, State, Thinking, Hungry, Eating, Task, Table, keeps_waiting, neighbours_of, same_task, state_in, state_of, has_to_wait, refusal_of, refusal_unless, table_after_call, with_state, found, or_else-None, same_task-true, stands_before-with_state, state_in-with_state_other, state_in-with_state_same, Await, AllWait, awaits_of, begins_of, begun_from, still_waiting, table_begun}
 use Rattle.dine_words.specs.declared.call.Call.TheVariants as call
 
 -- ---- who has to wait
@@ -62,10 +62,7 @@ waits-hungry t v u waits = elim (cases_Bool (is_none (refusal_of t (call.Hungry 
   | inr e ↦ rw e waits
   | inl e ↦
       let thinks : state_of t v ≡ Some Thinking = found Thinking (state_of t v) (is_none-None (refusal_of t (call.Hungry v)) e) in
-      let other : same_task v u ≡ false = elim (cases_Bool (same_task v u)) [
-        | inl same ↦ absurd (let two : Some Thinking ≡ Some Hungry = sym thinks ∙ ap (state_of t) (same_task-true v u same) ∙ (waits-only t u waits).hungry in cc)
-        | inr off ↦ off
-      ] in
+      let other = false_from_ne_true (same_task v u) (λ same. let two : Some Thinking ≡ Some Hungry = sym thinks ∙ ap (state_of t) (same_task-true v u same) ∙ (waits-only t u waits).hungry in cc) in
       rw e (waits-on t v Hungry (λ w h. absurd (let none : false ≡ true = rw thinks at h in cc)) u other waits)
 ]
 
@@ -78,10 +75,7 @@ waits-begin t v u waits = elim (cases_Bool (is_none (refusal_of t (call.Begin v)
       let hungry : state_of t v ≡ Some Hungry = found Hungry (state_of t v) (or_else-None (refusal_unless Hungry (state_of t v)) _ accepted).0 in
       let eats : state_in (with_state Eating v t.order) v ≡ Some Eating = state_in-with_state_same Eating v t.order (ap is_some hungry) in
       let done : has_to_wait t v ≡ false = rw accepted refl in
-      let other : same_task v u ≡ false = elim (cases_Bool (same_task v u)) [
-        | inl same ↦ absurd (let two : false ≡ true = sym done ∙ ap (has_to_wait t) (same_task-true v u same) ∙ waits in cc)
-        | inr off ↦ off
-      ] in
+      let other = false_from_ne_true (same_task v u) (λ same. let two : false ≡ true = sym done ∙ ap (has_to_wait t) (same_task-true v u same) ∙ waits in cc) in
       rw e (waits-on t v Eating (λ w h. rw eats refl) u other waits)
 ]
 

@@ -39,7 +39,7 @@ pub use Rattle.dine_words.specs.declared.task.State.{State}
 pub use Rattle.dine_words.specs.declared.task.State.TheVariants.{Eating, Hungry, Thinking}
 pub use Rattle.std.proofs.Common.{◌/◌, ◌%◌, Bool, Err, IfSome, IsSome, List, None, Ok, OnErr, OnOk, OnSome, Option, Result, Some, [], ap, append-nil, append_assoc, arith, codes, decimal, drop, eq-eqb, eqb, false, get_or, if◌then◌else◌, inl, inr, is_none, is_ok, is_some, length, length-append, length-drop, lit≤, map, nat_le, nat_lt, not, refl, rules, slice_get, slice_set, subst, suc, sym, take, true, unwrap_or, vec_capacity, vec_len, zero, ℕ, ◌&&◌, ◌*◌, ◌++◌, ◌+◌, ◌-◌, ◌<◌, ◌==◌, ◌^◌, ◌||◌, ◌∙◌, ◌∷◌, ◌≡◌, ◌≤◌, ◌⊎◌}
 pub use Rattle.std.proofs.Math.Seq.{take-append_seam}
-pub use Rattle.std.proofs.lemmas.Bool.{and_parts, cases_Bool, eqb-true, or_cases, or_left, or_parts, or_right}
+pub use Rattle.std.proofs.lemmas.Bool.{and_parts, cases_Bool, eqb-true, false_from_ne_true, true_from_ne_false, or_cases, or_left, or_parts, or_right}
 pub use Rattle.std.proofs.lemmas.Bool.Decides.{Decides-eqb, nat_tests}
 pub use Rattle.std.proofs.lemmas.Grind.{flat_map-append}
 pub use Rattle.std.proofs.lemmas.List.{length-map, map-append, map-set, take_all}
