@@ -1,5 +1,5 @@
 -- A request that was carried out comes again with the answer that it got.
-use Rattle.dine_serve.proofs.Words.{◌≡◌, ℕ, zero, suc, eq-eqb, true, false, List, [], ◌∷◌, ◌++◌, codes, length, map, take, slice_set, Option, Some, None, inl, inr, refl, sym, ap, ◌∙◌, subst, cases_Bool, RequestAnswer, Made, Cancelled, Waits, First, Again, Receipt, Deed, Make, Cancel, has_to_wait, again_lines, entry_in, coming_of, is_first, Broker, after_coming, after_deed, answer_done, is_full, received, said_done, is_noted}
+use Rattle.dine_serve.proofs.Words.{◌≡◌, ℕ, zero, suc, eq-eqb, true, false, List, [], ◌∷◌, ◌++◌, codes, length, map, take, slice_set, Option, Some, None, inl, inr, refl, ap, ◌∙◌, subst, cases_Bool, RequestAnswer, Made, Cancelled, Waits, First, Again, Receipt, Deed, Make, Cancel, has_to_wait, again_lines, entry_in, coming_of, is_first, Broker, after_coming, after_deed, answer_done, is_full, received, said_done, is_noted}
 use Rattle.dine_serve.specs.declared.request.Deed.TheVariants.{Await as await}
 use Rattle.dine_words.specs.declared.call.Call.TheVariants as call
 use Rattle.dine_serve.proofs.Once.{below-itself, same-done}

@@ -1,5 +1,5 @@
 -- Whether a broker has room for a line more, and what the result of an answer tells.
-use Rattle.dine_serve.proofs.Words.{◌≡◌, ℕ, ◌-◌, ◌^◌, ◌<◌, nat_le, Bool, true, false, ◌||◌, if◌then◌else◌, is_ok, OnErr, OnOk, Result, Ok, Err, refl, arith, nat_tests, HasRoom, Broker, has_no_room}
+use Rattle.dine_serve.proofs.Words.{◌≡◌, false, if◌then◌else◌, is_ok, OnErr, OnOk, Result, Ok, Err, arith, nat_tests, HasRoom, Broker, has_no_room}
 
 -- ---- room for one line more
 

@@ -1,5 +1,5 @@
 -- Whoever has to wait waits on where somebody joins or leaves, and where two tasks get a conflict.
-use Rattle.dine_serve.proofs.Words.{◌≡◌, ◌+◌, Bool, true, false, not, List, [], ◌∷◌, ◌++◌, Option, Some, None, is_none, inl, inr, refl, sym, ap, ◌∙◌, arith, cons_option, filter, list_any, cases_Bool, or_left, or_right, filter_map-append, list_any-append, Diner, State, Thinking, Hungry, Eating, Task, Table, has_end, keeps_waiting, neighbours_in, neighbours_of, other_end, same_task, state_in, state_of, has_to_wait, newcomer, refusal_of, table_after_call, without, absent_differs, found, same_task-true, stands_before-append, stands_before-without, state_in-append_other, state_in-without_other}
+use Rattle.dine_serve.proofs.Words.{◌≡◌, ◌+◌, Bool, true, false, not, List, [], ◌∷◌, ◌++◌, Option, Some, None, is_none, inl, inr, refl, ap, ◌∙◌, arith, cons_option, filter, list_any, cases_Bool, or_left, or_right, filter_map-append, list_any-append, Diner, State, Thinking, Hungry, Eating, Task, Table, has_end, keeps_waiting, neighbours_in, neighbours_of, other_end, same_task, state_in, state_of, has_to_wait, newcomer, refusal_of, table_after_call, without, absent_differs, found, same_task-true, stands_before-append, stands_before-without, state_in-append_other, state_in-without_other}
 use Rattle.dine_words.specs.declared.call.Call.TheVariants as call
 use Rattle.dine_serve.proofs.Ordered.{newcomer-absent, not_hungry, states-differ, thinks}
 use Rattle.dine_serve.proofs.Waiting.{any-more, is_none-None, waits-if, waits-only}

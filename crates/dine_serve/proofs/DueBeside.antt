@@ -1,5 +1,5 @@
 -- The begins that are due at the slots of a task's neighbours, by the records of its slot.
-use Rattle.dine_serve.proofs.Words.{◌≡◌, ℕ, ◌<◌, ◌≤◌, eqb, true, false, not, List, [], ◌∷◌, map, Option, Some, is_some, inl, inr, refl, sym, ap, ◌∙◌, subst, ◌||◌, arith, AllByRecursion, list_any, cases_Bool, nat_tests, Diner, Task, Table, are_in_conflict, is_between, same_task, stands_before, state_in, same_task-true, stands_before-other_way, ForkRecord, slots_of, Await, AreHeld, Leads, LeadsAt, LeadsOn, first_of, in_order, queue_at, waits_at}
+use Rattle.dine_serve.proofs.Words.{◌≡◌, ℕ, ◌<◌, ◌≤◌, true, false, not, List, [], ◌∷◌, map, Option, Some, is_some, inl, inr, refl, sym, ap, ◌∙◌, subst, arith, AllByRecursion, list_any, cases_Bool, nat_tests, Diner, Task, Table, are_in_conflict, is_between, same_task, stands_before, state_in, same_task-true, stands_before-other_way, ForkRecord, slots_of, Await, AreHeld, Leads, LeadsAt, LeadsOn, first_of, in_order, queue_at, waits_at}
 use Rattle.dine_forks.specs.Book as book
 use Rattle.dine_serve.proofs.FirstDue.{first-passes}
 use Rattle.dine_serve.proofs.Ordered.{before-through}

@@ -1,5 +1,5 @@
 -- Each call that was made where memory was wanting has its line.
-use Rattle.dine_serve.proofs.Words.{◌≡◌, ℕ, Bool, true, false, List, [], ◌++◌, map, Option, Some, None, Result, Ok, Err, refl, sym, ap, ◌∙◌, subst, append_assoc, append-nil, IsPrefix, entry_text, text_of_lines, Entry, Table, has_to_wait, Coming, First, Again, Stale, Foreign, Deed, Make, Cancel, Request, Ask, Order, Numbered, LineFault, HaveTheirLines, IsPartlySaid, IsUndone, StopsAtAwait, StopsAtComing, StopsAtDeed, StopsAtReading, coming_of, Broker, entries_by, entries_coming, entries_done, is_full}
+use Rattle.dine_serve.proofs.Words.{◌≡◌, ℕ, Bool, true, false, List, [], ◌++◌, map, Option, Some, None, Result, Ok, Err, refl, sym, ap, ◌∙◌, subst, append_assoc, append-nil, IsPrefix, entry_text, text_of_lines, Entry, has_to_wait, Coming, First, Again, Stale, Foreign, Deed, Make, Cancel, Request, Ask, Order, Numbered, LineFault, HaveTheirLines, IsPartlySaid, IsUndone, StopsAtAwait, StopsAtComing, StopsAtDeed, StopsAtReading, coming_of, Broker, entries_by, entries_coming, entries_done, is_full}
 use Rattle.dine_serve.specs.declared.request.Deed.TheVariants.{Await as await}
 
 -- the table stands, so no call was made, and a part of the answer may have been appended

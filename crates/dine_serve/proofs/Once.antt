@@ -1,5 +1,5 @@
 -- No number of a pass is carried out twice: once it was, no request with it comes for the first time.
-use Rattle.dine_serve.proofs.Words.{◌≡◌, ℕ, zero, suc, ◌<◌, ◌≤◌, nat_lt, eqb, true, false, ◌&&◌, List, [], ◌∷◌, slice_get, slice_set, Option, Some, None, is_some, Result, Ok, Err, inl, inr, refl, sym, ap, ◌∙◌, subst, arith, and_parts, cases_Bool, eqb-true, nat_tests, slice_get-set_other, Call, Entry, has_to_wait, table_after_call, Table, Await, LineFault, RequestAnswer, Made, Coming, First, Again, Stale, Foreign, Receipt, Deed, Make, Cancel, Request, Ask, Order, Numbered, entry_in, coming_at, coming_of, has_number, settled, settled_by, is_carried_out, is_first, times_carried_out, reading_of, Broker, after_coming, after_deed, after_making, after_reading, answer_done, counted, is_full, received, receipts_begun}
+use Rattle.dine_serve.proofs.Words.{◌≡◌, ℕ, zero, suc, ◌≤◌, nat_lt, eqb, true, false, ◌&&◌, List, [], ◌∷◌, slice_get, slice_set, Option, Some, None, is_some, Result, Ok, Err, inl, inr, refl, sym, ap, ◌∙◌, subst, arith, and_parts, cases_Bool, eqb-true, nat_tests, slice_get-set_other, Call, Entry, has_to_wait, table_after_call, Table, Await, LineFault, RequestAnswer, Made, Coming, First, Again, Stale, Foreign, Receipt, Deed, Make, Cancel, Request, Ask, Order, Numbered, entry_in, coming_at, coming_of, has_number, settled, settled_by, is_carried_out, is_first, times_carried_out, reading_of, Broker, after_coming, after_deed, after_making, after_reading, answer_done, counted, received, receipts_begun}
 use Rattle.dine_words.specs.declared.call.Call.TheVariants as call
 use Rattle.dine_serve.specs.declared.request.Deed.TheVariants.{Await as await}
 

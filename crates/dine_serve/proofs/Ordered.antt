@@ -1,5 +1,5 @@
 -- Those who wait stand in the order of last meals.
-use Rattle.dine_serve.proofs.Words.{◌≡◌, ℕ, eqb, true, false, List, [], ◌∷◌, Option, Some, None, is_none, inl, inr, Result, Ok, Err, refl, sym, ap, ◌∙◌, arith, nat_tests, cases_Bool, false_from_ne_true, Call, Diner, State, Thinking, Hungry, Eating, Task, Table, same_task, stands_before, state_in, state_of, changed_by, has_to_wait, newcomer, refusal_of, table_after_call, with_state, without, absent_differs, found, free_slot-unused, is_used, same_task-true, stands_before-append, stands_before-with_state, stands_before-without, Await, LineFault, RequestAnswer, Coming, First, Again, Stale, Foreign, Deed, Make, Cancel, Request, Ask, Order, Numbered, coming_of, reading_of, Broker, after_coming, after_deed, after_making, after_reading, answer_done, counted, is_full, received, standing_from, AllWait, InOrder, is_await_of, noted, still_waiting, table_begun, taken_back, each-on}
+use Rattle.dine_serve.proofs.Words.{◌≡◌, ℕ, true, false, List, [], ◌∷◌, Option, Some, None, is_none, inl, inr, Result, Ok, Err, refl, sym, ap, ◌∙◌, arith, cases_Bool, false_from_ne_true, Call, Diner, State, Thinking, Hungry, Eating, Task, Table, same_task, stands_before, state_in, state_of, changed_by, has_to_wait, newcomer, refusal_of, table_after_call, with_state, without, absent_differs, found, free_slot-unused, is_used, same_task-true, stands_before-append, stands_before-with_state, stands_before-without, Await, LineFault, RequestAnswer, Coming, First, Again, Stale, Foreign, Deed, Make, Cancel, Request, Ask, Order, Numbered, coming_of, reading_of, Broker, after_coming, after_deed, after_making, after_reading, answer_done, counted, is_full, received, standing_from, AllWait, InOrder, is_await_of, noted, still_waiting, table_begun, taken_back, each-on}
 use Rattle.dine_words.specs.declared.call.Call.TheVariants as call
 use Rattle.dine_serve.specs.declared.request.Deed.TheVariants.{Await as await}
 use Rattle.dine_serve.proofs.Each.{each-and, each-back, each-noted, each-still}

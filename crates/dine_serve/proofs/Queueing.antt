@@ -1,5 +1,5 @@
 -- What the queues have where one who waits is noted, taken back, or begins.
-use Rattle.dine_serve.proofs.Words.{◌≡◌, ℕ, ◌+◌, eqb, true, false, if◌then◌else◌, List, [], ◌∷◌, ◌++◌, length, is_some, inl, inr, refl, sym, ap, ◌∙◌, subst, arith, eq-eqb, cases_Bool, eqb-true, and_parts, nat_tests, filter, Diner, Task, same_task, stands_before, state_in, same_slot, one_in_slot, Await, AreQueued, AreSeated, Changes, queue_at, waits_at, InOrder, NoneBefore, is_await_of, is_noted, noted, taken_back}
+use Rattle.dine_serve.proofs.Words.{◌≡◌, ℕ, ◌+◌, eqb, true, false, List, [], ◌∷◌, ◌++◌, length, is_some, inl, inr, refl, sym, ap, ◌∙◌, subst, arith, eq-eqb, cases_Bool, eqb-true, and_parts, nat_tests, filter, Diner, Task, same_task, stands_before, state_in, same_slot, one_in_slot, Await, AreQueued, AreSeated, Changes, queue_at, waits_at, InOrder, NoneBefore, is_await_of, is_noted, noted, taken_back}
 use Rattle.std.specs.List.{IsDistinct}
 
 -- nobody stands before itself

@@ -1,5 +1,5 @@
 -- Requests that come again: with a blank line in the place of each nothing is changed but the lines that answer them.
-use Rattle.dine_serve.proofs.Words.{◌≡◌, ℕ, eqb, Bool, true, false, if◌then◌else◌, List, [], ◌∷◌, ◌++◌, map, Option, Some, None, Result, Ok, Err, inl, inr, refl, sym, ap, ◌∙◌, cases_Bool, arith, nat_tests, filter-append, filter, Entry, has_to_wait, entry_text, LineFault, Made, Cancelled, Waits, Coming, First, Again, Stale, Foreign, Deed, Make, Cancel, Request, Ask, Order, Numbered, is_of_journal, coming_of, is_again, is_no_repeat, is_repeat, without_repeats, reading_of, Broker, after_coming, after_reading, counted, entries_by, entries_coming, entries_from, entries_made, is_full, said_coming, said_done, said_from, said_to, standing_from}
+use Rattle.dine_serve.proofs.Words.{◌≡◌, ℕ, Bool, true, false, if◌then◌else◌, List, [], ◌∷◌, ◌++◌, map, Option, Some, None, Result, Ok, Err, inl, inr, refl, sym, ap, ◌∙◌, cases_Bool, arith, nat_tests, filter-append, filter, Entry, entry_text, LineFault, Made, Cancelled, Waits, Coming, First, Again, Stale, Foreign, Deed, Make, Cancel, Request, Ask, Order, Numbered, is_of_journal, coming_of, is_again, is_no_repeat, is_repeat, without_repeats, reading_of, Broker, after_coming, after_reading, counted, entries_by, entries_coming, entries_from, entries_made, said_coming, said_done, said_from, said_to, standing_from}
 use Rattle.dine_words.specs.declared.call.Call.TheVariants as call
 use Rattle.dine_serve.specs.declared.request.Deed.TheVariants.{Await as await}
 use Rattle.dine_serve.proofs.Legal.{entry_of_journal}

@@ -12,10 +12,6 @@ set-changes rows slot queue less = record {
 pub none-past : (rows : List (List Await)) (slot : ℕ) → length rows ≤ slot → queue_at rows slot ≡ []
 none-past rows slot past = ap (λ o. unwrap_or o []) (slice_get_past rows slot past)
 
--- nothing is written
-pub unchanged : (rows : List (List Await)) (slot : ℕ) (queue : List Await) → queue_at rows slot ≡ queue → Changes rows rows slot queue
-unchanged rows slot queue same = record { changed = same; others = λ s off. refl }
-
 -- where the queue at a slot is as it was, all are
 pub same-changes : (rows rows' : List (List Await)) (slot : ℕ) → Changes rows rows' slot (queue_at rows slot) → SameQueues rows rows'
 same-changes rows rows' slot changes s = elim (cases_Bool (eqb slot s)) [

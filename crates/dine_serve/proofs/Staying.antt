@@ -1,5 +1,5 @@
 -- Whoever has to wait waits on after a call that can't have ended its wait.
-use Rattle.dine_serve.proofs.Words.{◌≡◌, ℕ, ◌+◌, Bool, true, false, not, ◌&&◌, List, [], ◌∷◌, ◌++◌, Option, Some, None, is_none, inl, inr, refl, sym, ap, ◌∙◌, subst, arith, append-nil, map, cons_option, filter, list_any, and_parts, cases_Bool, or_cases, or_parts, Contains-from_any, Call, Refusal, Done, Diner, Thinking, Eating, Task, entry_text, text_of_lines, is_done, may_end_waits, Table, are_in_conflict, is_between, keeps_waiting, neighbours_in, neighbours_of, other_end, same_task, state_in, state_of, acceptance_of, has_to_wait, moved_last, refusal_of, reply_of, table_after_call, with_state, without, conflict_either_way, found, neighbours_exactly, same_task-sym, same_task-true, stands_before-append, stands_before-with_state, stands_before-without, state_in-append_other, state_in-with_state_other, state_in-without_other, Await, Receipt, AllWaitBut, may_have_ended, Broker, after_making, AllWait, begun_from, receipts_begun, still_waiting, table_begun, each-on}
+use Rattle.dine_serve.proofs.Words.{◌≡◌, ℕ, ◌+◌, Bool, true, false, not, ◌&&◌, List, [], ◌∷◌, ◌++◌, Option, Some, None, is_none, inl, inr, refl, sym, ap, ◌∙◌, arith, append-nil, map, cons_option, filter, list_any, and_parts, cases_Bool, or_cases, or_parts, Contains-from_any, Call, Refusal, Done, Diner, Thinking, Eating, Task, entry_text, text_of_lines, is_done, may_end_waits, Table, are_in_conflict, is_between, keeps_waiting, neighbours_in, neighbours_of, other_end, same_task, state_in, state_of, acceptance_of, has_to_wait, moved_last, refusal_of, reply_of, table_after_call, with_state, without, conflict_either_way, found, neighbours_exactly, same_task-sym, same_task-true, stands_before-append, stands_before-with_state, stands_before-without, state_in-append_other, state_in-with_state_other, state_in-without_other, Await, Receipt, AllWaitBut, may_have_ended, Broker, after_making, AllWait, begun_from, receipts_begun, still_waiting, table_begun, each-on}
 use Rattle.dine_words.specs.declared.call.Call.TheVariants as call
 use Rattle.dine_serve.proofs.ComingAndGoing.{waits-conflict, waits-join, waits-leave}
 use Rattle.dine_serve.proofs.Ordered.{eats, not_hungry}

@@ -1,5 +1,5 @@
 -- Requests of the usual forms are what their whole lines ask for.
-use Rattle.dine_serve.proofs.Words.{◌≡◌, ℕ, ◌==◌, ◌-◌, Bool, ◌^◌, ◌<◌, ◌≤◌, true, false, ◌&&◌, nat_le, nat_lt, List, [], ◌∷◌, ◌++◌, length, map, take, drop, codes, decimal, Option, Some, None, Ok, inl, inr, refl, sym, ap, ◌∙◌, subst, append_assoc, append-nil, length-append, length-drop, arith, lit≤, and_parts, cases_Bool, nat_tests, take-append_seam, take_all, is_ascii_digit, CallOnOne, Task, call_about_one, opening_on_one, begins_with_number, digits_after, number_at, task_at, word_at, FitsTask, task_text, text_of_lines, bind-Some, number_at-Some, number_at-decimal, task_at-Some, task_at-text, word_at-Some, begun_line, ended_lines, seen_lines, seen_of, IsShort, begun-on, begun-pieces, ended-pieces, short-both, short-decimal, short-more, short-task, is_blank, is_passed_over, pieces_of, words_of, Deed, Make, Cancel, Request, Numbered, Order, deed_of, numbered_by, numbered_request, order_at, pass_at, reading_of, request_by, request_of, spaced_at, Broker, after_reading, counted, said_to, serves, Asks, AsksDeed, Takes, takes-line}
+use Rattle.dine_serve.proofs.Words.{◌≡◌, ℕ, ◌==◌, ◌-◌, Bool, ◌^◌, ◌<◌, ◌≤◌, true, false, nat_lt, List, [], ◌∷◌, ◌++◌, length, map, take, drop, codes, decimal, Option, Some, None, Ok, refl, sym, ap, ◌∙◌, subst, append_assoc, append-nil, length-append, length-drop, arith, lit≤, nat_tests, take_all, is_ascii_digit, CallOnOne, Task, call_about_one, opening_on_one, number_at, task_at, word_at, FitsTask, task_text, text_of_lines, bind-Some, number_at-Some, number_at-decimal, task_at-Some, task_at-text, word_at-Some, begun_line, ended_lines, seen_lines, seen_of, IsShort, begun-on, begun-pieces, ended-pieces, short-both, short-decimal, short-more, short-task, is_blank, is_passed_over, pieces_of, words_of, Deed, Make, Cancel, Request, Numbered, Order, deed_of, numbered_by, numbered_request, order_at, pass_at, reading_of, request_by, request_of, spaced_at, Broker, after_reading, counted, said_to, serves, Asks, AsksDeed, Takes, takes-line}
 use Rattle.dine_words.specs.declared.call_word.CallOnOne.TheVariants as one
 use Rattle.dine_serve.specs.declared.request.Deed.TheVariants.{Await as await}
 

@@ -1,5 +1,5 @@
 -- Requests of the forms that nearly all have, at the front of a text.
-use Rattle.std.specs.Prelude.{◌≡◌, ℕ, ◌<◌, ◌≤◌, Bool, List, [], ◌∷◌, ◌++◌, length, Option, Some, Ok}
+use Rattle.std.specs.Prelude.{◌≡◌, ℕ, ◌<◌, ◌≤◌, Bool, List, [], ◌∷◌, ◌++◌, length, Some, Ok}
 use Rattle.dine_serve.specs.Words.{HasLines, ended_lines, Deed, Request}
 use Rattle.dine_serve.specs.Requests.{deed_of, reading_of}
 
