@@ -127,6 +127,15 @@ received pass number None s = s
 received pass number (Some answer) s =
     record s { receipts = slice_set s.receipts pass (Some record { number = number; answer = answer }) }
 
+-- the same of one that has this number, or none
+abbrev pub received_as : ℕ → Option ℕ → Option RequestAnswer → Broker → Broker
+received_as pass None answer s = s
+received_as pass (Some number) answer s = received pass number answer s
+
+-- where the broker stands after what a pass wanted done, by a request that has this number, or none
+abbrev pub after_asked : Broker → ℕ → Option ℕ → Deed → Broker
+after_asked s pass number deed = received_as pass number (answer_done s pass deed) (after_deed s pass number deed)
+
 -- where the broker stands after it
 abbrev pub after_coming : Broker → ℕ → ℕ → Deed → Coming → Broker
 after_coming s pass number deed First = received pass number (answer_done s pass deed) (after_deed s pass (Some number) deed)

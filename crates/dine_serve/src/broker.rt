@@ -6,10 +6,10 @@ ghost use Rattle.dine_streams.specs.Lines.{begun_line};
 ghost use Rattle.dine_streams.specs.Machines.{Takes};
 ghost use Rattle.dine_table.specs.Calls.{reply_of, table_after_call};
 ghost use Rattle.dine_words.specs.Texts.{entry_text, text_of_lines};
-ghost use Rattle.dine_serve.specs.Answers.{answer_line, answer_of, entry_in};
+ghost use Rattle.dine_serve.specs.Answers.{answer_line, answer_of};
 ghost use Rattle.dine_serve.specs.Partly.{IsUndone, StopsAtComing, StopsAtDeed, StopsAtReading};
 ghost use Rattle.dine_serve.specs.Receipts.{coming_of};
-ghost use Rattle.dine_serve.specs.Serving.{IsGoing, after_coming, after_deed, after_making, after_reading, answer_done, counted, entries_made, received, said_coming, said_done, said_to, serves, standing_at, HasRoom, has_no_room, is_full};
+ghost use Rattle.dine_serve.specs.Serving.{after_asked, after_coming, after_making, after_reading, counted, entries_made, has_no_room, is_full, received_as, said_coming, said_done, said_to, serves, standing_at, HasRoom, IsGoing};
 ghost use Rattle.dine_serve.specs.Waits.{begun_from};
 
 use crate::answer_texts::{
@@ -27,9 +27,6 @@ use dine_streams::{Line, Machine};
 use dine_words::{Call, Entry, MAX_ENTRY_LINE, Reply, Task};
 use std::alloc::{AllocError, Global};
 use std::marker::Model;
-
-// What a deed was answered: nothing where it had a fault. There may be no memory for the lines that answer it.
-type Answered = Result<Option<RequestAnswer>, AllocError>;
 
 /// Where serving stands: the arbiter of the calls that were made, the begins that wait, the last request of each pass where
 /// requests have numbers, and how many lines were heard. It keeps no other call, and however many lines come it takes no
@@ -179,10 +176,7 @@ impl Broker {
             out.old.items out.new.items) }
     {
         match request {
-            Request::Order(pass, deed) => {
-                self.carry_out(pass, None, deed, out)?;
-                Ok(())
-            }
+            Request::Order(pass, deed) => self.carry_out(pass, None, deed, out),
             Request::Numbered(pass, number, deed) => self.take_numbered(pass, number, deed, out),
             Request::Ask(question) => self.answer(question, out),
         }
@@ -206,36 +200,15 @@ impl Broker {
             (coming_of self.old.receipts pass number) out.old.items out.new.items) }
     {
         match coming_of(&self.receipts, pass, number) {
-            Coming::First => self.take_first(pass, number, deed, out),
+            Coming::First => self.carry_out(pass, Some(number), deed, out),
             Coming::Again(answer) => push_again(out, answer),
             Coming::Stale => self.refuse(LineFault::Stale, out),
             Coming::Foreign => self.refuse(LineFault::Words, out),
         }
     }
 
-    // Carries a request out that has a number. It is the last one of its pass then, unless it had a fault.
-    fn take_first(
-        &mut self,
-        pass: u32,
-        number: u64,
-        deed: Deed,
-        out: &mut Vec<u8>,
-    ) -> Result<(), AllocError>
-        requires { IsGoing self.old }
-        ensures after { OnOk result (self.new ≡ received pass number (answer_done self.old pass deed)
-            (after_deed self.old pass (Some number) deed)) }
-        ensures said { OnOk result
-            (out.new.items ≡ out.old.items ++ text_of_lines (said_done self.old pass deed)) }
-        ensures err { OnErr result
-            (StopsAtDeed self.old self.new pass deed out.old.items out.new.items) }
-    {
-        if let Some(answer) = self.carry_out(pass, Some(number), deed, out)? {
-            put(&mut self.receipts, pass, Receipt { number, answer });
-        }
-        Ok(())
-    }
-
-    // Does what a request wants done, appends the lines that answer it, and tells what it was answered.
+    // Does what a request wants done, and appends the lines that answer it. If it has a number it is the last one of its pass
+    // then, unless it had a fault.
     #[inline(always)]
     fn carry_out(
         &mut self,
@@ -243,30 +216,34 @@ impl Broker {
         number: Option<u64>,
         deed: Deed,
         out: &mut Vec<u8>,
-    ) -> Answered
+    ) -> Result<(), AllocError>
         requires { IsGoing self.old }
-        ensures answer { IfOk result (λ answer. answer ≡ answer_done self.old pass deed) }
-        ensures after { OnOk result (self.new ≡ after_deed self.old pass number deed) }
+        ensures after { OnOk result (self.new ≡ after_asked self.old pass number deed) }
         ensures said { OnOk result
             (out.new.items ≡ out.old.items ++ text_of_lines (said_done self.old pass deed)) }
         ensures err { OnErr result
             (StopsAtDeed self.old self.new pass deed out.old.items out.new.items) }
     {
         match deed {
-            Deed::Make(call) => self.make(pass, call, out),
+            Deed::Make(call) => self.make(pass, number, call, out),
             Deed::Await(task) => self.wait(pass, number, task, out),
-            Deed::Cancel(task) => self.cancel(pass, task, out),
+            Deed::Cancel(task) => self.cancel(pass, number, task, out),
         }
     }
 
     // Makes a call of a pass, and appends its line, and those of the begins that wait no longer after it. Room for its line
     // and for those of all who wait comes first: where there is none, nothing is done.
     #[inline(always)]
-    fn make(&mut self, pass: u32, call: Call, out: &mut Vec<u8>) -> Answered
+    fn make(
+        &mut self,
+        pass: u32,
+        number: Option<u64>,
+        call: Call,
+        out: &mut Vec<u8>,
+    ) -> Result<(), AllocError>
         requires { IsGoing self.old }
-        ensures answer { IfOk result (λ answer.
-            answer ≡ Some (RequestAnswer.Made (entry_in self.old.table pass call))) }
-        ensures after { OnOk result (self.new ≡ after_making self.old call) }
+        ensures after { OnOk result
+            (self.new ≡ after_asked self.old pass number (Deed.Make call)) }
         ensures said { OnOk result (out.new.items ≡ out.old.items
             ++ text_of_lines (map entry_text (entries_made self.old pass call))) }
         ensures err { OnErr result (IsUndone self.old self.new out.old.items out.new.items) }
@@ -275,7 +252,18 @@ impl Broker {
         let entry = Entry { pass, call, reply };
         push_line_and_room(out, entry, self.waiters.len())?;
         self.apply(call, reply, out);
-        Ok(Some(RequestAnswer::Made(entry)))
+        self.receive(pass, number, RequestAnswer::Made(entry));
+        Ok(())
+    }
+
+    // Notes what a request that has a number was answered: it is the last one of its pass.
+    #[inline(always)]
+    fn receive(&mut self, pass: u32, number: Option<u64>, answer: RequestAnswer)
+        ensures { self.new ≡ received_as pass number (Some answer) self.old }
+    {
+        if let Some(number) = number {
+            put(&mut self.receipts, pass, Receipt { number, answer });
+        }
     }
 
     // Makes a call whose reply is known, and the begins that wait no longer after it, for whose lines there is room. None is
@@ -306,26 +294,30 @@ impl Broker {
 
     // Begins a task for a pass where it need not wait, and else notes that it waits.
     #[inline(never)]
-    fn wait(&mut self, pass: u32, number: Option<u64>, task: Task, out: &mut Vec<u8>) -> Answered
+    fn wait(
+        &mut self,
+        pass: u32,
+        number: Option<u64>,
+        task: Task,
+        out: &mut Vec<u8>,
+    ) -> Result<(), AllocError>
         requires { IsGoing self.old }
-        ensures answer { IfOk result (λ answer.
-            answer ≡ answer_done self.old pass (Deed.Await task)) }
         ensures after { OnOk result
-            (self.new ≡ after_deed self.old pass number (Deed.Await task)) }
+            (self.new ≡ after_asked self.old pass number (Deed.Await task)) }
         ensures said { OnOk result (out.new.items
             ≡ out.old.items ++ text_of_lines (said_done self.old pass (Deed.Await task))) }
         ensures err { OnErr result (StopsAtDeed self.old self.new pass (Deed.Await task)
             out.old.items out.new.items) }
     {
         if !has_to_wait(&self.arbiter, task) {
-            return self.make(pass, Call::Begin(task), out);
+            return self.make(pass, number, Call::Begin(task), out);
         }
         if self.is_full() {
-            self.refuse(LineFault::Full, out)?;
-            return Ok(None);
+            return self.refuse(LineFault::Full, out);
         }
         self.waiters.note(Await { pass, task, number })?;
-        Ok(Some(RequestAnswer::Waits))
+        self.receive(pass, number, RequestAnswer::Waits);
+        Ok(())
     }
 
     // Whether as many begins wait as tasks may be present.
@@ -338,17 +330,24 @@ impl Broker {
 
     // Takes a begin back that waits, and appends the line that tells of it.
     #[inline(never)]
-    fn cancel(&mut self, pass: u32, task: Task, out: &mut Vec<u8>) -> Answered
-        ensures answer { IfOk result (λ answer.
-            answer ≡ answer_done self.old pass (Deed.Cancel task)) }
-        ensures after { self.new ≡ after_deed self.old pass None (Deed.Cancel task) }
+    fn cancel(
+        &mut self,
+        pass: u32,
+        number: Option<u64>,
+        task: Task,
+        out: &mut Vec<u8>,
+    ) -> Result<(), AllocError>
+        ensures after { OnOk result
+            (self.new ≡ after_asked self.old pass number (Deed.Cancel task)) }
         ensures said { OnOk result (out.new.items
             ≡ out.old.items ++ text_of_lines (said_done self.old pass (Deed.Cancel task))) }
-        ensures err_said { OnErr result (IsPrefix out.old.items out.new.items) }
+        ensures err { OnErr result (StopsAtDeed self.old self.new pass (Deed.Cancel task)
+            out.old.items out.new.items) }
     {
         let was_noted = self.waiters.take_back(pass, task);
         push_cancelled_line(out, was_noted, task)?;
-        Ok(Some(RequestAnswer::Cancelled(was_noted, task)))
+        self.receive(pass, number, RequestAnswer::Cancelled(was_noted, task));
+        Ok(())
     }
 
     // Appends the line that answers a question.

@@ -12,6 +12,7 @@ use dine_arbiter::Arbiter;
 use dine_words::{Call, Task};
 
 /// The begin that is due first after a call. Where one at a slot was made last, those behind it at the slot come next.
+#[inline(always)]
 pub fn first_due(
     arbiter: &Arbiter,
     waiters: &Waiters,
@@ -44,6 +45,7 @@ pub fn first_due(
 }
 
 // Of a begin and those due at the slots of a task's neighbours the earliest.
+#[inline(always)]
 fn earliest_beside(
     arbiter: &Arbiter,
     waiters: &Waiters,

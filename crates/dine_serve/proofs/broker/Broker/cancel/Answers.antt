@@ -1,5 +1,6 @@
-use Rattle.dine_serve.proofs.Words.{◌≡◌, ◌++◌, ◌∷◌, [], Some, ap, ◌∙◌, arith, text_of_lines, Cancelled, cancelled_line, in_order, is_noted, taken_back}
-use Rattle.dine_serve.specs.Serving.{Broker as Standing}
+use Rattle.dine_serve.proofs.Words.{◌≡◌, ◌++◌, ◌∷◌, [], Bool, Some, ap, ◌∙◌, arith, text_of_lines, Cancelled, cancelled_line, in_order, is_noted, taken_back}
+use Rattle.dine_serve.specs.Serving.{Broker as Standing, received_as}
+use Rattle.dine_serve.proofs.Answering.{of_error}
 use Rattle.dine_serve.proofs.Keeping.{Keeps, keeps-back, some-noted, told-back}
 use Rattle.dine_serve.proofs.broker.Broker.cancel.Goals as goal
 use Rattle.dine_serve.proofs.broker.Broker.cancel.Goals.{After-take_back-was_noted}
@@ -33,14 +34,14 @@ invariant_of-self c = (others (goal.at.invariant_of-self c).After-take_back-was_
 pub invariant_of-self-2 : goal.invariant_of-self-2
 invariant_of-self-2 c = (others (goal.at.invariant_of-self-2 c).After-take_back-was_noted).kept
 
-pub returns-in_err-push_cancelled_line-clause-after : goal.returns-in_err-push_cancelled_line-clause-after
-returns-in_err-push_cancelled_line-clause-after c = after (goal.at.returns-in_err-push_cancelled_line-clause-after c).After-take_back-was_noted
-
-pub returns-clause-answer : goal.returns-clause-answer
-returns-clause-answer c = ap (λ b. Some (Cancelled b c.args.task)) (found (goal.at.returns-clause-answer c).After-take_back-was_noted)
+pub returns-in_err-push_cancelled_line-clause-err : goal.returns-in_err-push_cancelled_line-clause-err
+returns-in_err-push_cancelled_line-clause-err c = of_error _ c.from_residual.result (after (goal.at.returns-in_err-push_cancelled_line-clause-err c).After-take_back-was_noted, c.in_err-push_cancelled_line.ensures.err)
 
 pub returns-clause-after : goal.returns-clause-after
-returns-clause-after c = after (goal.at.returns-clause-after c).After-take_back-was_noted
+returns-clause-after c =
+    let taken = (goal.at.returns-clause-after c).After-take_back-was_noted in
+    let last = λ (b : Bool) (s : Standing). received_as c.args.pass c.args.number (Some (Cancelled b c.args.task)) s in
+    c.receive.ensures ∙ ap (last c.take_back-was_noted.result) (after taken) ∙ ap (λ b. last b (record c.args.self.now { awaits = taken_back c.args.pass c.args.task c.args.self.now.awaits })) (found taken)
 
 pub returns-clause-said : goal.returns-clause-said
 returns-clause-said c = c.in_ok-push_cancelled_line.ensures.ok ∙ ap (λ b. c.args.out.now.items ++ text_of_lines (cancelled_line b c.args.task ∷ [])) (found (goal.at.returns-clause-said c).After-take_back-was_noted)
