@@ -44,12 +44,10 @@ same-settled receipts a e pass number = by a.number
 -- after those of all that begin
 same-begun : (t : Table) (others : List Await) (receipts : List (Option Receipt)) → Same receipts (receipts_begun t others receipts)
 same-begun t [] receipts pass number = refl
-same-begun t (a ∷ others) receipts pass number = elim (cases_Bool (has_to_wait t a.task)) [
-  | inl e ↦ rw e (same-begun t others receipts pass number)
-  | inr e ↦
-      let entry = entry_in t a.pass (call.Begin a.task) in
-      rw e (same-begun (table_after_call t (call.Begin a.task)) others (settled receipts a entry) pass number ∙ same-settled receipts a entry pass number)
-]
+same-begun t (a ∷ others) receipts pass number =
+    let next = table_after_call t (call.Begin a.task) in
+    let put = settled receipts a (entry_in t a.pass (call.Begin a.task)) in
+    grind (arith, same-begun t others receipts pass number, same-begun next others put pass number, same-settled receipts a (entry_in t a.pass (call.Begin a.task)) pass number)
 
 -- and after a request, before its receipt is put
 pub same-done : (s : Broker) (p : ℕ) (n : Option ℕ) (deed : Deed) → Same s.receipts (after_deed s p n deed).receipts

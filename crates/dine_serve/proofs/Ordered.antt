@@ -63,10 +63,9 @@ begin-order t v a b = begun-table (λ x. stands_before x.order a b ≡ stands_be
 -- nor do all the begins that are made
 begun-order : (t : Table) (others : List Await) (a b : Task) → stands_before (table_begun t others).order a b ≡ stands_before t.order a b
 begun-order t [] a b = refl
-begun-order t (c ∷ others) a b = elim (cases_Bool (has_to_wait t c.task)) [
-  | inl e ↦ rw e (begun-order t others a b)
-  | inr e ↦ rw e (begun-order (table_after_call t (call.Begin c.task)) others a b ∙ begin-order t c.task a b)
-]
+begun-order t (c ∷ others) a b =
+    let next = table_after_call t (call.Begin c.task) in
+    grind (arith, begun-order t others a b, begun-order next others a b, begin-order t c.task a b)
 
 module _ (order order' : List Diner) (same : (a b : Task) → stands_before order' a b ≡ stands_before order a b) where
   pub in_order-same : (others : List Await) → InOrder order others → InOrder order' others

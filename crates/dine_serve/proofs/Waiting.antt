@@ -84,10 +84,9 @@ waits-begin t v u waits = elim (cases_Bool (is_none (refusal_of t (call.Begin v)
 -- while those are made that wait no longer, who waits waits on
 waits-through : (t : Table) (others : List Await) (u : Task) → has_to_wait t u ≡ true → has_to_wait (table_begun t others) u ≡ true
 waits-through t [] u waits = waits
-waits-through t (a ∷ others) u waits = elim (cases_Bool (has_to_wait t a.task)) [
-  | inl e ↦ rw e (waits-through t others u waits)
-  | inr e ↦ rw e (waits-through (table_after_call t (call.Begin a.task)) others u (waits-begin t a.task u waits))
-]
+waits-through t (a ∷ others) u waits =
+    let next = table_after_call t (call.Begin a.task) in
+    grind (arith, waits-through t others u, waits-through next others u, waits-begin t a.task u)
 
 -- after that all who are left have to wait
 pub all-left-wait : (t : Table) (others : List Await) → AllWait (table_begun t others) (still_waiting t others)
@@ -102,7 +101,4 @@ all-left-wait t (a ∷ others) = elim (cases_Bool (has_to_wait t a.task)) [
 -- each begin that waited is made once, or waits on
 pub each-once : (t : Table) (others : List Await) (pass : ℕ) (u : Task) → begins_of pass u (begun_from t others) + awaits_of pass u (still_waiting t others) ≡ awaits_of pass u others
 each-once t [] pass u = refl
-each-once t (a ∷ others) pass u = elim (cases_Bool (has_to_wait t a.task)) [
-  | inl e ↦ rw e (let rest = each-once t others pass u in omega (arith, rest))
-  | inr e ↦ rw e (let rest = each-once (table_after_call t (call.Begin a.task)) others pass u in omega (arith, rest))
-]
+each-once t (a ∷ others) pass u = grind (arith, each-once t others pass u, each-once (table_after_call t (call.Begin a.task)) others pass u)
