@@ -124,10 +124,7 @@ changed-order t (call.Finish v) a b accepted ha hb =
 
 -- a call leaves the order of two that have to wait
 call-order : (t : Table) (c : Call) (a b : Task) → has_to_wait t a ≡ true → has_to_wait t b ≡ true → stands_before (table_after_call t c).order a b ≡ stands_before t.order a b
-call-order t c a b wa wb = elim (cases_Bool (is_none (refusal_of t c))) [
-  | inr e ↦ rw e refl
-  | inl e ↦ rw e (changed-order t c a b (is_none-None (refusal_of t c) e) (who_waits-hungry t a wa) (who_waits-hungry t b wb))
-]
+call-order t c a b wa wb = grind (arith, is_none-None (refusal_of t c), changed-order t c a b, who_waits-hungry t a, who_waits-hungry t b)
 
 -- those who wait stand in order after a call
 pub in_order-called : (t : Table) (c : Call) (others : List Await) → AllWait t others → InOrder t.order others → InOrder (table_after_call t c).order others

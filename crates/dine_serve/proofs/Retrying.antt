@@ -22,10 +22,7 @@ in_order-with_state s u (d ∷ ds) rows =
 -- and are present if they were
 seated-with_state : (s : State) (u v : Task) (order : List Diner) → is_some (state_in order v) ≡ true → is_some (state_in (with_state s u order) v) ≡ true
 seated-with_state s u v [] h = h
-seated-with_state s u v (d ∷ ds) h = elim (cases_Bool (same_task d.task v)) [
-  | inl e ↦ rw (diner_put_in-task s u d) (rw e refl)
-  | inr e ↦ rw (diner_put_in-task s u d) (rw e (seated-with_state s u v ds (rw e at h)))
-]
+seated-with_state s u v (d ∷ ds) h = grind (arith, diner_put_in-task s u d, seated-with_state s u v ds)
 
 -- ---- a begin
 

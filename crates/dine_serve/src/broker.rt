@@ -225,6 +225,10 @@ impl Broker {
             (StopsAtDeed self.old self.new pass deed out.old.items out.new.items) }
     {
         match deed {
+            // The calls of a meal are compiled each for itself.
+            Deed::Make(Call::Hungry(task)) => self.make(pass, number, Call::Hungry(task), out),
+            Deed::Make(Call::Begin(task)) => self.make(pass, number, Call::Begin(task), out),
+            Deed::Make(Call::Finish(task)) => self.make(pass, number, Call::Finish(task), out),
             Deed::Make(call) => self.make(pass, number, call, out),
             Deed::Await(task) => self.wait(pass, number, task, out),
             Deed::Cancel(task) => self.cancel(pass, number, task, out),
